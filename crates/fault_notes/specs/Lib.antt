@@ -1,3 +1,4 @@
 pub mod Blocks
+pub mod Given
 pub mod Marks
 pub mod Near

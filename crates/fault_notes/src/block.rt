@@ -6,21 +6,23 @@ ghost use Rattle.std.specs.List.Sorted.{IsNonDecreasingBy, IsPermutation};
 ghost use Rattle.std.specs.Option.{option_map};
 ghost use Rattle.fault_notes.specs.Blocks.{IsToldText, fault_blocks, known_in, means_first, means_in};
 ghost use Rattle.fault_notes.specs.Blocks.{shown_lines, title_of};
+ghost use Rattle.fault_notes.specs.Given.{told_faults_of};
 ghost use Rattle.fault_notes.specs.Marks.{IsMeant, known_of};
 ghost use Rattle.line_parts.specs.LineFaults.{out_of_memory};
-ghost use Rattle.model.specs.AllFaults.{faults_of, fixed_by, found_lines, smallest};
+ghost use Rattle.model.specs.AllFaults.{fixed_by, found_lines, smallest};
 ghost use Rattle.model.specs.Source.{first_context, read_lines};
 ghost use Rattle.model.specs.TextLines.{lines_of};
 ghost use Rattle.source_faults.specs.Views.{found_all};
 ghost use Rattle.source_notes.specs.Blocks.{AreBlocks, block_of};
 ghost use Rattle.source_notes.specs.Lines.{name_view, names_of, texts_of};
 
+use crate::given::told_source_faults;
 use crate::note::{Context, note_of};
 use crate::wording::{FAULTS, ONE_FAULT};
 use bus::MapSpec;
 use formatting::{push_count, push_text};
 use model::{AsmFault, AsmFaultKind, Profile};
-use source_faults::{Found, Mending, lay_out, source_faults};
+use source_faults::{Found, Mending, lay_out};
 use source_notes::{
     Name, Note, every_line, first_told, line_of, line_or_none, names_of, phrase, push_block,
     push_total,
@@ -240,24 +242,24 @@ pub fn faults_text(
     Ok(text)
 }
 
-/// Returns the text of all faults of a source on a map, as `faults_text` writes it under the name
-/// of the source's file. It is empty if the source has no fault.
+/// Returns the text of the faults of a source on a map that are told, as `faults_text` writes it
+/// under the name of the source's file. It is empty if the source has no fault.
 pub fn all_faults_text(
     alloc: Global,
     file: &[u8],
     source: &[u8],
     map: &MapSpec,
 ) -> Result<Vec<u8>, AllocError>
-    // Blocks of all faults that the source has on the map.
+    // Blocks of the faults of the source on the map that are told.
     ensures { IfOk result (λ text. IsToldText file.now source.now map.now.profile
-        (faults_of map.now source.now) text.items) }
+        (told_faults_of map.now source.now) text.items) }
 {
-    let faults = source_faults(alloc, source, map)?;
+    let faults = told_source_faults(alloc, source, map)?;
     faults_text(alloc, file, source, map, &faults)
 }
 
-/// Returns the text of all faults of a source that is refused with a fault, as `faults_text` writes
-/// it under the name of the source's file. Returns nothing if memory ran out, or if that is the
+/// Returns the text of the faults that are told of a source which is refused with a fault, as
+/// `faults_text` writes it under the name of the source's file. Returns nothing if memory ran out, or if that is the
 /// fault. Source: mos65.
 pub fn told_faults(
     alloc: Global,
@@ -267,7 +269,7 @@ pub fn told_faults(
     fault: AsmFault,
 ) -> Option<Vec<u8>>
     ensures told { IfSome result (λ text. IsToldText file.now source.now map.now.profile
-        (faults_of map.now source.now) text.items) }
+        (told_faults_of map.now source.now) text.items) }
     ensures memory { fault ≡ out_of_memory → result ≡ None }
 {
     match fault.kind {

@@ -10,6 +10,7 @@ ghost use Rattle.fault_notes.specs.Marks.{unclosed, whole, wrong_operand_place};
 ghost use Rattle.line_parts.specs.Lexemes.{lexemes};
 ghost use Rattle.source_notes.specs.Operands.{end_of};
 
+use crate::given::is_define;
 use crate::left::{
     BRACKETS, COMMENT, END, LOCAL, Part, UNNAMED, left_words, no_value_words, round_words,
 };
@@ -20,8 +21,8 @@ use opcode_facts::mnemonics_in;
 use optable::{letters_of, mnemonic_in};
 use parser::parse_expr;
 use source_notes::{
-    Hint, Note, after_label, concat, defines_by_equals, defines_next, describe, directive_hint,
-    gives_value, is_symbol, marked_hint, operation_hint, phrase,
+    Hint, Note, after_label, concat, defines_by_equals, describe, directive_hint, gives_value,
+    is_symbol, marked_hint, operation_hint, phrase,
 };
 use std::alloc::{AllocError, Global};
 
@@ -109,7 +110,7 @@ fn definition_words(
 }
 
 /// Returns words with the definition that a word of another assembler makes of the tokens behind
-/// it, if they are a name, a `=` and a value.
+/// it, if they are a name and a value with the `=` that the word takes.
 fn defined_words(
     alloc: Global,
     word: &[u8],
@@ -118,6 +119,9 @@ fn defined_words(
     match rest {
         [name, equals, value @ ..]
             if defines_by_equals(word) && is_word(name) && is_symbol(equals, b'=') => {
+            Ok(Some(definition_words(alloc, name.text, value)?))
+        }
+        [name, value @ ..] if is_define(word) && is_word(name) => {
             Ok(Some(definition_words(alloc, name.text, value)?))
         }
         _ => Ok(None),
@@ -318,9 +322,6 @@ fn named_words(
     let words = match rest {
         [next, value @ ..] if gives_value(next.text) => {
             definition_words(alloc, word.text, value)?
-        }
-        [next, value @ ..] if defines_next(word.text) && is_word(next) => {
-            definition_words(alloc, next.text, value)?
         }
         [next, ..] if begins_operation(profile, next) => label_words(alloc, word.text)?,
         _ => match parts_of_name(rest) {
@@ -532,6 +533,44 @@ fn part_of(directive: &[u8]) -> Part {
     }
 }
 
+/// Returns whether tokens are the rest of a name, as other assemblers take it, and a `:`.
+fn ends_label(tokens: &[Token<'_>]) -> bool {
+    match parts_of_name(tokens) {
+        Some(count) => match tokens.get(count) {
+            Some(token) => is_symbol(token, b':'),
+            None => false,
+        },
+        None => false,
+    }
+}
+
+/// Returns whether letters with a point before them are a local label of another assembler, by the
+/// tokens after them: an operation, perhaps after a number that belongs to the label, the rest of a
+/// name and a `:`, or a `=`.
+fn is_local_label(rest: &[Token<'_>]) -> bool {
+    match rest {
+        [next, ..] if is_symbol(next, b'=') || begins_operation(Profile::C, next) => true,
+        [number, next, ..]
+            if matches!(number.kind, TokenKind::Number) && begins_operation(Profile::C, next) => {
+            true
+        }
+        _ => ends_label(rest),
+    }
+}
+
+/// Returns words about a directive that is not known, by the tokens after it.
+fn unknown_words(
+    alloc: Global,
+    directive: &[u8],
+    rest: &[Token<'_>],
+) -> Result<Vec<u8>, AllocError> {
+    describe(
+        alloc,
+        directive,
+        if rest.is_empty() { ALONE } else { NO_DIRECTIVE },
+    )
+}
+
 /// Returns a note about a directive that is none of the five, by the tokens after it.
 #[tactic(auto, using(crate::proofs::Marked::plain_steps))]
 fn directive_note(
@@ -545,9 +584,12 @@ fn directive_note(
     if let Some(words) = defined_words(alloc, directive.text, rest)? {
         return Ok(about(directive, words));
     }
+    if is_local_label(rest) {
+        return Ok(about(directive, phrase(alloc, LOCAL)?));
+    }
     match directive_hint(directive.text) {
         Some(hint) => hint_note(alloc, profile, directive, " is no directive here; ", hint),
-        None => Ok(about(directive, describe(alloc, directive.text, NO_DIRECTIVE)?)),
+        None => Ok(about(directive, unknown_words(alloc, directive.text, rest)?)),
     }
 }
 
@@ -556,6 +598,9 @@ const NO_MACROS: &str = "there are no macros: write the lines, or a subroutine";
 
 /// What is said of a directive that is not known.
 const NO_DIRECTIVE: &str = " is no directive; there are .BYTE .WORD .DBYTE .RES .END";
+
+/// What is said of a directive that is not known and stands alone, as a local label does.
+const ALONE: &str = " is no directive, and there are no local labels";
 
 /// Returns words about a directive that begins with `!`, as in ACME, by the tokens after it.
 fn marked_words(alloc: Global, word: &[u8], rest: &[Token<'_>]) -> Result<Vec<u8>, AllocError> {

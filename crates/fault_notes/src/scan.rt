@@ -144,6 +144,10 @@ fn reason_of(bytes: &[u8]) -> Reason<'_> {
             NONE,
             "there are no local labels: each label is a name of its own",
         ),
+        b'_' => (
+            NONE,
+            "a name begins with a letter, and there are no local labels",
+        ),
         b'{' | b'}' => (
             first_alone(bytes),
             " has no meaning here: lines stand in no blocks",

@@ -174,11 +174,6 @@ pub fn gives_value(text: &[u8]) -> bool {
     is_one_of(EQUALS, without_point(text))
 }
 
-/// Returns whether a word gives the name after it a value, in another assembler.
-pub fn defines_next(text: &[u8]) -> bool {
-    without_point(text).eq_ignore_ascii_case(b"DEFINE")
-}
-
 /// Returns whether a word gives the name after it a value behind a `=`, in another assembler.
 pub fn defines_by_equals(text: &[u8]) -> bool {
     is_one_of(DEFINES, without_point(text))

@@ -24,7 +24,7 @@ mod words;
 pub use block::{first_told, push_block, push_total};
 pub use characters::further;
 pub use dialects::{
-    Hint, defines_by_equals, defines_next, directive_hint, gives_value, marked_hint, operation_hint,
+    Hint, defines_by_equals, directive_hint, gives_value, marked_hint, operation_hint,
 };
 pub use lines::{Name, every_line, line_of, line_or_none, names_of};
 pub use note::Note;
