@@ -1,3 +1,4 @@
+pub mod GivenSteps
 pub mod Marked
 pub mod Prefixes
 pub mod Told

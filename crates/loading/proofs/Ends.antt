@@ -20,7 +20,7 @@ use Rattle.image_files.specs.Looks.{EndsLooks}
 use Rattle.image_files.specs.Options.{said_of}
 use Rattle.image_reader.specs.declared.form.Form.{Form}
 use Rattle.loading.specs.Loads.{EndsAsImage, EndsFile, EndsFileOf, EndsImageFile, EndsLoad, EndsSource, EndsSourceFile, IsImageOf, IsLoaded, IsSparedFile}
-use Rattle.model.specs.AllFaults.{faults_of}
+use Rattle.fault_notes.specs.Given.{told_faults_of}
 use Rattle.model.specs.Source.{HasFault}
 use Rattle.model.specs.State.{Map, is_map}
 use Rattle.model.specs.declared.source_fault.AsmFault.{AsmFault}
@@ -49,7 +49,7 @@ source_ends bus_map source f (Err r) (inr has) is = subst (EndsSource bus_map) (
 
 pub told_ends : (bus_map : Map) (file source : List ℕ) (fault : AsmFault) (text : Vec ℕ Global) (told : Option (Vec ℕ Global)) → told ≡ Some text
     → (fault ≡ out_of_memory) ⊎ HasFault bus_map source fault
-    → (fault ≡ out_of_memory → told ≡ None) → IsToldText (shown_name file) source bus_map.profile (faults_of bus_map source) text.items
+    → (fault ≡ out_of_memory → told ≡ None) → IsToldText (shown_name file) source bus_map.profile (told_faults_of bus_map source) text.items
     → EndsSourceFile bus_map file (Faults fault text)
 told_ends bus_map file source fault text told some (inl memory) none is = absurd (no_text (none memory))
   where

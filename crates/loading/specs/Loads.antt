@@ -11,6 +11,7 @@ use Rattle.arguments.specs.declared.load_fault.LoadFault.TheVariants.{AtPort, Fa
 use Rattle.arguments.specs.declared.refusal.Refusal.{Refusal}
 use Rattle.arguments.specs.declared.refusal.Refusal.TheVariants as refusal
 use Rattle.fault_notes.specs.Blocks.{IsToldText}
+use Rattle.fault_notes.specs.Given.{told_faults_of}
 use Rattle.image_files.specs.Files.{EndsImage, IsOfFile}
 use Rattle.image_files.specs.Fill.{IsSpared, fill_at}
 use Rattle.image_files.specs.FreeBase.{IsFreeBase}
@@ -19,7 +20,6 @@ use Rattle.image_files.specs.Options.{said_of}
 use Rattle.image_files.specs.Told.{IsUnloaded}
 use Rattle.image_files.specs.declared.refusal.ImageRefusal.{ImageRefusal}
 use Rattle.image_reader.specs.declared.form.Form.{Form}
-use Rattle.model.specs.AllFaults.{faults_of}
 use Rattle.model.specs.Names.{Definitions}
 use Rattle.model.specs.Source.{HasFault}
 use Rattle.model.specs.State.{Map, has_port_byte, is_map}
@@ -74,7 +74,7 @@ EndsNames asked fault = IsBadMap (map_of asked) fault ⊎ EndsSource (map_of ask
 -- A source has a fault, and a text tells of all its faults under the name of its file, as it is shown.
 abbrev pub TellsFaults : Map → List ℕ → AsmFault → List ℕ → Type 0
 TellsFaults bus_map file fault text = (source : List ℕ) × HasFault bus_map source fault
-    × IsToldText (shown_name file) source bus_map.profile (faults_of bus_map source) text
+    × IsToldText (shown_name file) source bus_map.profile (told_faults_of bus_map source) text
 
 -- Why the source of a file is not assembled on a map: it has a fault, and all its faults are told;
 -- or it is not read.

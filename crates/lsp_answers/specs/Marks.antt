@@ -5,7 +5,7 @@ use Rattle.std.specs.Str.Lossy.{utf8_lossy}
 use Rattle.lsp_answers.specs.Texts.{TextView, range_in}
 use Rattle.json_messages.specs.Values.{list_of}
 use Rattle.lsp_messages.specs.Values.{mark_data, marks_data}
-use Rattle.model.specs.AllFaults.{faults_of}
+use Rattle.fault_notes.specs.Given.{told_faults_of}
 use Rattle.model.specs.State.{Map}
 use Rattle.serde_json.specs.Data.{Data}
 use Rattle.lsp_answers.specs.Diagnostics.{AreDiagnostics}
@@ -27,5 +27,5 @@ mark_of t d = mark_data (severity_of d.kind) (name_of d.kind) (utf8_lossy d.note
 -- fault, in the order of `check`.
 abbrev pub AreMarks : Map → List ℕ → TextView → Data → Type 0
 AreMarks bus_map uri t v = (ds : List Diagnostic)
-    × AreDiagnostics bus_map t.source (faults_of bus_map t.source) ds
+    × AreDiagnostics bus_map t.source (told_faults_of bus_map t.source) ds
     × (v ≡ marks_data uri (list_of (map (mark_of t) ds)))

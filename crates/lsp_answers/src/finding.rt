@@ -1,14 +1,14 @@
 //! All faults or warnings of a source.
 
 ghost use Rattle.std.specs.Prelude.{IfOk};
-ghost use Rattle.model.specs.AllFaults.{faults_of};
+ghost use Rattle.fault_notes.specs.Given.{told_faults_of};
 ghost use Rattle.lsp_answers.specs.Diagnostics.{AreDiagnostics};
 
 use crate::fault_marks::marked_faults;
 use crate::kinds::Diagnostic;
 use crate::warning_marks::marked_warnings;
 use bus::MapSpec;
-use source_faults::source_faults;
+use fault_notes::told_source_faults;
 use std::alloc::{AllocError, Global};
 use warnings::source_warnings;
 
@@ -24,9 +24,9 @@ pub fn diagnostics(
     // They are exactly the source's faults, or its warnings, in their order: each with its line,
     // its kind and a note that means what `check` marks.
     ensures { IfOk result (λ found.
-        AreDiagnostics map.now source.now (faults_of map.now source.now) found.items) }
+        AreDiagnostics map.now source.now (told_faults_of map.now source.now) found.items) }
 {
-    let Ok(faults) = source_faults(alloc, source, map) else {
+    let Ok(faults) = told_source_faults(alloc, source, map) else {
         return Err(AllocError);
     };
     if !faults.is_empty() {

@@ -12,7 +12,7 @@ use Rattle.lsp_hints.specs.declared.branches.Far.{Far}
 use Rattle.lsp_messages.specs.Columns.{most}
 use Rattle.json_messages.specs.Values.{list_of, object_of, word}
 use Rattle.lsp_messages.specs.Values.{changes_data, edit_data}
-use Rattle.model.specs.AllFaults.{faults_of}
+use Rattle.fault_notes.specs.Given.{told_faults_of}
 use Rattle.model.specs.State.{Map}
 use Rattle.serde_json.specs.Data.{Data}
 use Rattle.lsp_answers.specs.Diagnostics.{AreDiagnostics}
@@ -107,5 +107,5 @@ fixes_between uri t between d
 -- The changes for what `check` tells of a source between two lines, in its order.
 abbrev pub AreFixes : Map → List ℕ → TextView → ℕ × ℕ → Data → Type 0
 AreFixes bus_map uri t between v = (ds : List Diagnostic)
-    × AreDiagnostics bus_map t.source (faults_of bus_map t.source) ds
+    × AreDiagnostics bus_map t.source (told_faults_of bus_map t.source) ds
     × (v ≡ list_of (flat_map (fixes_between uri t between) ds))

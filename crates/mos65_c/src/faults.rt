@@ -4,7 +4,7 @@
 ghost use Rattle.std.specs.Prelude.{◌≡◌, ◌≢◌, IfOk, length, List, take, ℕ};
 ghost use Rattle.clean_source.specs.Cleaned.{cleaned};
 ghost use Rattle.fault_notes.specs.Blocks.{IsToldText};
-ghost use Rattle.model.specs.AllFaults.{faults_of};
+ghost use Rattle.fault_notes.specs.Given.{told_faults_of};
 ghost use Rattle.mos65_c.specs.Answers.{written};
 ghost use Rattle.mos65_c.specs.Status.{config_map, config_status};
 ghost use Rattle.warning_notes.specs.Blocks.{IsWarnedText};
@@ -23,7 +23,7 @@ use warnings::source_warnings;
 /// Returns the text of all faults of a source on a map, under the name of its file.
 fn told_of(alloc: Global, name: &[u8], source: &[u8], map: &MapSpec) -> Result<Vec<u8>, AllocError>
     ensures { IfOk result (λ told. IsToldText name.now (cleaned source.now) map.now.profile
-        (faults_of map.now (cleaned source.now)) told.items) }
+        (told_faults_of map.now (cleaned source.now)) told.items) }
 {
     let text = clean_source(alloc, source)?;
     all_faults_text(alloc, name, &text, map)
@@ -42,7 +42,7 @@ pub extern "C" fn mos65_faults(
 ) -> u32
     ensures told { config_status config.now ≡ 0 → result ≢ 3 → (result ≡ 0) × (text : List ℕ)
         × IsToldText name.now (cleaned source.now) (config_map config.now).profile
-        (faults_of (config_map config.now) (cleaned source.now)) text
+        (told_faults_of (config_map config.now) (cleaned source.now)) text
         × (count.new ≡ length text) × (out.new ≡ written (take (length out.old) text) out.old) }
     ensures config { config_status config.now ≢ 0 → result ≡ config_status config.now }
     ensures refused { result ≢ 0 → (out.new ≡ out.old) × (count.new ≡ count.old) }

@@ -10,7 +10,7 @@ use Rattle.word_check.specs.declared.text.CheckedText.{CheckedText}
 use Rattle.clap.specs.Words.{Text}
 use Rattle.clean_source.specs.Cleaned.{cleaned}
 use Rattle.image_files.specs.Looks.{EndsLooks, IsCaptured, looks_raw}
-use Rattle.model.specs.AllFaults.{faults_of}
+use Rattle.fault_notes.specs.Given.{told_faults_of}
 use Rattle.model.specs.State.{is_map}
 use Rattle.warnings.specs.Warnings.{warnings_of}
 
@@ -25,9 +25,9 @@ pub record IsFound (asked : CheckAsked) (file : Text) (found : CheckedText) : Ty
   pub source : List ℕ
   pub clean : cleaned source ≡ source
   pub told : IsCheckedText (shown_name file) source asked.profile
-      (faults_of (map_asked asked) source) (warnings_of (map_asked asked) source) found.text.items
-  pub faulty : found.is_faulty ≡ not (length (faults_of (map_asked asked) source) == 0)
-  pub warned : found.is_warned ≡ ((length (faults_of (map_asked asked) source) == 0)
+      (told_faults_of (map_asked asked) source) (warnings_of (map_asked asked) source) found.text.items
+  pub faulty : found.is_faulty ≡ not (length (told_faults_of (map_asked asked) source) == 0)
+  pub warned : found.is_warned ≡ ((length (told_faults_of (map_asked asked) source) == 0)
       && not (length (warnings_of (map_asked asked) source) == 0))
 
 -- Whether a text counts for the exit status: it has a fault, or a warning where these count.

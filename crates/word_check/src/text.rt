@@ -2,13 +2,12 @@
 
 ghost use Rattle.std.specs.Prelude.{◌≡◌, ◌==◌, ◌&&◌, ℕ, List, Option, IfOk, length, not, true, false};
 ghost use Rattle.word_check.specs.Checked.{IsCheckedText};
-ghost use Rattle.model.specs.AllFaults.{faults_of};
+ghost use Rattle.fault_notes.specs.Given.{told_faults_of};
 ghost use Rattle.model.specs.Source.{Denotes};
 ghost use Rattle.warnings.specs.Warnings.{warnings_of};
 
 use bus::MapSpec;
-use fault_notes::faults_text;
-use source_faults::source_faults;
+use fault_notes::{faults_text, told_source_faults};
 use std::alloc::{AllocError, Global};
 use warning_notes::warnings_text;
 use warnings::source_warnings;
@@ -36,19 +35,19 @@ pub fn checked_text(
     // source's own line with a mark; or for each of the first 50 warnings, with its kind in place
     // of the name and the number, and with its words.
     ensures told { IfOk result (λ c. IsCheckedText file.now source.now map.now.profile
-        (faults_of map.now source.now) (warnings_of map.now source.now) c.text.items) }
+        (told_faults_of map.now source.now) (warnings_of map.now source.now) c.text.items) }
     // Whether a fault is told.
     ensures faulty { IfOk result
-        (λ c. c.is_faulty ≡ not (length (faults_of map.now source.now) == 0)) }
+        (λ c. c.is_faulty ≡ not (length (told_faults_of map.now source.now) == 0)) }
     // Whether a warning is told.
     ensures warned { IfOk result (λ c. c.is_warned
-        ≡ ((length (faults_of map.now source.now) == 0)
+        ≡ ((length (told_faults_of map.now source.now) == 0)
         && not (length (warnings_of map.now source.now) == 0))) }
     // A source that denotes an image has no fault.
     ensures right { IfOk result
         (λ c. (image : List (Option ℕ)) → Denotes map.now source.now image → c.is_faulty ≡ false) }
 {
-    let faults = source_faults(alloc, source, map)?;
+    let faults = told_source_faults(alloc, source, map)?;
     if faults.is_empty() {
         let warnings = source_warnings(alloc, source, map)?;
         let text = warnings_text(alloc, file, source, &warnings)?;
