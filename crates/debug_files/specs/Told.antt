@@ -4,7 +4,7 @@ use Rattle.std.specs.Prelude.{◌≡◌, ℕ, List, [], ◌++◌, codes, decimal
 use Rattle.arguments.specs.declared.load_fault.LoadFault.{LoadFault}
 use Rattle.arguments.specs.declared.load_fault.LoadFault.TheVariants.{NoImage, Refused}
 use Rattle.arguments.specs.declared.refusal.Refusal.TheVariants.{OutOfMemory}
-use Rattle.debug_files.specs.declared.faults.TheConstants.{NO_COLUMNS, NO_FORM, NO_LINE_NUMBER, NO_NUMBERS}
+use Rattle.debug_files.specs.declared.faults.TheConstants.{LONG_SPANS, NO_COLUMNS, NO_FORM, NO_LINE_NUMBER, NO_NUMBERS}
 use Rattle.debug_records.specs.declared.fault.DebugError.{DebugError}
 use Rattle.debug_records.specs.declared.fault.DebugError.TheVariants as debug
 use Rattle.debug_records.specs.declared.fault.DebugFault.{DebugFault}
@@ -36,6 +36,7 @@ name_of kind.NoLineNumber = codes "NoLineNumber"
 name_of kind.NoColumns = codes "NoColumns"
 name_of kind.NoHead = codes "NoHead"
 name_of kind.NoBytes = codes "NoBytes"
+name_of kind.LongSpans = codes "LongSpans"
 
 abbrev pub number_of : DebugFaultKind → ℕ
 number_of kind.NoTab = 1
@@ -58,14 +59,17 @@ number_of kind.NoLineNumber = 17
 number_of kind.NoColumns = 18
 number_of kind.NoHead = 19
 number_of kind.NoBytes = 20
+number_of kind.LongSpans = 21
 
--- What a fault means: a file of another kind, and a listing that was made in another way.
+-- What a fault means: a file of another kind, a listing that was made in another way, and lines
+-- with too many bytes.
 abbrev pub note_of : DebugFaultKind → List ℕ
 note_of kind.NoForm = NO_FORM.now
 note_of kind.NoNumbers = NO_NUMBERS.now
 note_of kind.NoLineNumber = NO_LINE_NUMBER.now
 note_of kind.NoColumns = NO_COLUMNS.now
 note_of kind.NoHead = NO_COLUMNS.now
+note_of kind.LongSpans = LONG_SPANS.now
 note_of kind = []
 
 -- Why a debug file is not loaded that was not read.

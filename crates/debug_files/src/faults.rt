@@ -46,6 +46,7 @@ fn name_of(kind: DebugFaultKind) -> &'static str
         DebugFaultKind::NoColumns => "NoColumns",
         DebugFaultKind::NoHead => "NoHead",
         DebugFaultKind::NoBytes => "NoBytes",
+        DebugFaultKind::LongSpans => "LongSpans",
     }
 }
 
@@ -74,6 +75,7 @@ fn number_of(kind: DebugFaultKind) -> u8
         DebugFaultKind::NoColumns => 18,
         DebugFaultKind::NoHead => 19,
         DebugFaultKind::NoBytes => 20,
+        DebugFaultKind::LongSpans => 21,
     }
 }
 
@@ -90,7 +92,11 @@ const NO_LINE_NUMBER: &str =
 /// What is said of a listing with other columns.
 const NO_COLUMNS: &str = ": make the listing without --tab-size";
 
-/// Returns what a fault means: a file of another kind, or a listing that was made in another way.
+/// What is said of a debug file whose lines have too many bytes.
+const LONG_SPANS: &str = ": the spans of its lines have more than 16,777,216 bytes together";
+
+/// Returns what a fault means: a file of another kind, a listing that was made in another way, or a
+/// debug file whose lines have too many bytes.
 fn note_of(kind: DebugFaultKind) -> &'static str
     ensures { result.now ≡ note_of kind }
 {
@@ -99,6 +105,7 @@ fn note_of(kind: DebugFaultKind) -> &'static str
         DebugFaultKind::NoNumbers => NO_NUMBERS,
         DebugFaultKind::NoLineNumber => NO_LINE_NUMBER,
         DebugFaultKind::NoColumns | DebugFaultKind::NoHead => NO_COLUMNS,
+        DebugFaultKind::LongSpans => LONG_SPANS,
         _ => "",
     }
 }

@@ -5,4 +5,5 @@ pub mod LineLengths
 pub mod Passing
 pub mod Pushed
 pub mod Tables
+pub mod Totals
 pub mod Ways

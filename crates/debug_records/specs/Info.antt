@@ -1,7 +1,7 @@
 -- What a debug file says: tables of records by their numbers, and which spans each line has.
 -- Sources: those of Fields.antt.
 use Rattle.std.specs.Prelude.{ℕ, ◌+◌, ◌-◌, ◌==◌, nat_le, nat_lt, Bool, false, is_some, if◌then◌else◌, List, [], ◌++◌, length, get_or, set, replicate, Option, Some, None, Result, Ok, Err}
-use Rattle.std.specs.List.{count_by}
+use Rattle.std.specs.List.{count_by, sum_by}
 use Rattle.debug_records.specs.Faults.{fault_before}
 use Rattle.debug_records.specs.Records.{CSymbol, File, Scope, Segment, Symbol}
 use Rattle.debug_records.specs.declared.fault.DebugFaultKind.TheVariants.{IdTwice, TooMany}
@@ -59,6 +59,19 @@ no_info = record {
   c_symbols = [];
   uses = [];
 }
+
+-- ---- how many bytes lines have
+
+abbrev pub size_of_span : Option Span → ℕ
+size_of_span None = 0
+size_of_span (Some span) = span.size
+
+abbrev pub use_size : Info → Use → ℕ
+use_size info used = size_of_span (record_at info.spans used.span)
+
+-- A span that two lines have counts twice.
+abbrev pub spanned : Info → ℕ
+spanned info = sum_by (use_size info) info.uses
 
 -- ---- files that are not told apart
 

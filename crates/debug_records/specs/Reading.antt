@@ -7,12 +7,12 @@ use Rattle.std.specs.Str.{bytes_eq}
 use Rattle.model.specs.TextLines.{lines_of}
 use Rattle.debug_records.specs.Faults.{◌>>=◌, column_of, fault_before, fault_in}
 use Rattle.debug_records.specs.Fields.{Field, Said, said_by}
-use Rattle.debug_records.specs.Info.{Info, no_info, record_at, with_new}
+use Rattle.debug_records.specs.Info.{Info, no_info, record_at, spanned, with_new}
 use Rattle.debug_records.specs.Numbers.{numbers_in, placed_in, placed_or_none}
 use Rattle.debug_records.specs.Records.{CSymbol, Scope, c_symbol_of, file_of, line_of, scope_of, segment_of, span_of, storage_in, symbol_of}
 use Rattle.debug_records.specs.declared.fault.DebugFault.{DebugFault}
 use Rattle.debug_records.specs.declared.fault.DebugFaultKind.{DebugFaultKind}
-use Rattle.debug_records.specs.declared.fault.DebugFaultKind.TheVariants.{NoRecord, NoVersion, OtherVersion, TooLarge, TooMany}
+use Rattle.debug_records.specs.declared.fault.DebugFaultKind.TheVariants.{LongSpans, NoRecord, NoVersion, OtherVersion, TooLarge, TooMany}
 use Rattle.debug_records.specs.declared.fault.LineFault.{LineFault}
 use Rattle.debug_records.specs.declared.fault.Place.{Place}
 use Rattle.debug_records.specs.declared.info.Use.{Use}
@@ -224,16 +224,21 @@ first_missing info [] = None
 first_missing info (reference ∷ references) = if is_there info reference
     then first_missing info references else Some reference
 
+abbrev pub at_start : {A : Type 0} → DebugFaultKind → Result A DebugFault
+at_start kind = Err (record { line = 1; column = 1; kind = kind })
+
+-- The spans of all lines have 16,777,216 bytes at most, which is 256 times what a 6502 addresses.
+abbrev pub most_spanned : ℕ
+most_spanned = 16777216
+
 abbrev pub without_missing : Info → Option Reference → Result Info DebugFault
-without_missing info None = Ok info
+without_missing info None = if nat_lt most_spanned (spanned info) then at_start LongSpans
+    else Ok info
 without_missing info (Some reference) = Err (record {
   line = reference.line;
   column = reference.column;
   kind = NoRecord;
 })
-
-abbrev pub at_start : {A : Type 0} → DebugFaultKind → Result A DebugFault
-at_start kind = Err (record { line = 1; column = 1; kind = kind })
 
 unfoldable pub finished : Reading → Result Info DebugFault
 finished r = if r.is_versioned then without_missing r.info (first_missing r.info r.references)

@@ -36,6 +36,8 @@ pub enum DebugFaultKind {
     NoRecord,
     /// The file has more than 16 MiB.
     TooLarge,
+    /// The spans of all lines have more than 16,777,216 bytes.
+    LongSpans,
     /// The file is neither a debug file nor a listing.
     NoForm,
     /// The listing has no numbers of lines.

@@ -1,15 +1,16 @@
 //! A debug file from its first line to its last.
 
-ghost use Rattle.std.specs.Prelude.{◌≡◌, ◌≤◌, ◌<◌, ◌^◌, length};
+ghost use Rattle.std.specs.Prelude.{◌≡◌, ◌≤◌, ◌<◌, ◌^◌, length, nat_lt};
 ghost use Rattle.model.specs.TextLines.{lines_of};
 ghost use Rattle.debug_records.specs.Faults.{GivesInfo};
+ghost use Rattle.debug_records.specs.Info.{spanned, use_size};
 ghost use Rattle.debug_records.specs.Reading.{debug_info, finished, in_line, lines_read};
-ghost use Rattle.debug_records.specs.Reading.{nothing_read, place_of, with_text};
+ghost use Rattle.debug_records.specs.Reading.{most_spanned, nothing_read, place_of, with_text};
 ghost use Rattle.debug_records.specs.Views.{info_view, reading_view};
 ghost use Rattle.debug_records.specs.declared.fault.DebugError.TheVariants.{Fault};
 
 use crate::fault::{DebugError, DebugFault, DebugFaultKind, LineError, Place, fault_in};
-use crate::info::DebugInfo;
+use crate::info::{DebugInfo, Use, record_at};
 use crate::reading::{Reading, nothing_read, push_text};
 use crate::reference::first_missing;
 use line_parts::next_line;
@@ -17,6 +18,9 @@ use std::alloc::Global;
 
 /// The most bytes of a file: 16 MiB.
 const MOST_BYTES: usize = 16_777_216;
+
+/// The most bytes of the spans of all lines.
+const MOST_SPANNED: u64 = 16_777_216;
 
 /// Takes a line, and tells a fault with its place in the file.
 fn push_numbered<'a>(
@@ -74,7 +78,34 @@ fn fault_at_start(kind: DebugFaultKind) -> DebugError
     })
 }
 
-/// Returns what all lines say, if there was a version, and each reference is one to a record.
+/// Returns how many bytes the span of a use has.
+fn use_size(info: &DebugInfo<'_>, used: Use) -> u64
+    ensures size { result ≡ use_size (info_view info.now) used }
+    ensures small { result < 2 ^ 32 }
+{
+    match record_at(&info.spans, used.span) {
+        None => 0,
+        Some(span) => span.size as u64,
+    }
+}
+
+/// Returns whether the spans of all lines have too many bytes: each line that is shown is looked
+/// for at each byte of its spans.
+fn has_long_spans(info: &DebugInfo<'_>) -> bool
+    ensures { result ≡ nat_lt most_spanned (spanned (info_view info.now)) }
+{
+    let mut total = 0u64;
+    for used in info.uses.as_slice() {
+        total += use_size(info, *used);
+        if MOST_SPANNED < total {
+            return true;
+        }
+    }
+    false
+}
+
+/// Returns what all lines say, if there was a version, each reference is one to a record, and the
+/// spans of lines have no more bytes than they may.
 #[tactic(auto, unfolding(crate::specs::Reading::finished))]
 fn finish<'a>(reading: Reading<'a>) -> Result<DebugInfo<'a>, DebugError>
     ensures { GivesInfo info_view result (finished (reading_view reading.entry)) }
@@ -88,6 +119,7 @@ fn finish<'a>(reading: Reading<'a>) -> Result<DebugInfo<'a>, DebugError>
         references,
     } = reading;
     match first_missing(&info, references.as_slice()) {
+        None if has_long_spans(&info) => Err(fault_at_start(DebugFaultKind::LongSpans)),
         None => Ok(info),
         Some(reference) => Err(DebugError::Fault(DebugFault {
             line: reference.line,
@@ -105,8 +137,9 @@ fn finish<'a>(reading: Reading<'a>) -> Result<DebugInfo<'a>, DebugError>
 /// # Errors
 ///
 /// `Fault` is the first fault of a line; if there is none, the first reference to a record that is
-/// not there. A file of more than 16 MiB, 4,096 files, or 262,144 records of another word, or
-/// spans of lines, is refused. `OutOfMemory` comes where an allocation failed.
+/// not there; if there is none, spans of lines with more than 16,777,216 bytes together. A file of
+/// more than 16 MiB, 4,096 files, or 262,144 records of another word, or spans of lines, is refused.
+/// `OutOfMemory` comes where an allocation failed.
 #[tactic(auto, unfolding(crate::specs::Reading::debug_info))]
 pub fn read_debug_info<'a>(alloc: Global, text: &'a [u8]) -> Result<DebugInfo<'a>, DebugError>
     ensures { GivesInfo info_view result (debug_info text.now) }
