@@ -17,8 +17,6 @@ const { openEngine, EngineFault } = (() => {
   const PLACES = { config: 0, fault: 16, line: 32, registers: 48, ending: 64, access: 80, count: 88,
     value: 96 };
   const BYTES_OF_PLACES = 112;
-  // The smallest module with a 64-bit memory.
-  const MEMORY64 = [0, 97, 115, 109, 1, 0, 0, 0, 5, 3, 1, 4, 1];
   // The names of statuses by their hundreds.
   const NAMES = [
     ["Ok", "Closed", "Misuse", "OutOfMemory", "NoSuchName", "NoSuchLine"],
@@ -416,10 +414,11 @@ const { openEngine, EngineFault } = (() => {
     }
   }
 
-  /* Opens the module. Where the browser has no 64-bit memory, the error's `memory64` is false. */
+  /* Opens the module, with 32-bit or 64-bit addresses. Where the browser has no WebAssembly that
+   * takes it, the error's `isOld` is true. */
   async function openEngine(moduleBytes) {
-    if (typeof WebAssembly === "undefined" || !WebAssembly.validate(Uint8Array.from(MEMORY64))) {
-      throw Object.assign(new Error("no WebAssembly with a 64-bit memory"), { memory64: false });
+    if (typeof WebAssembly === "undefined" || !WebAssembly.validate(moduleBytes)) {
+      throw Object.assign(new Error("WebAssembly does not take the module"), { isOld: true });
     }
     const heap = new EngineHeap();
     const { instance } = await WebAssembly.instantiate(moduleBytes, { heap: heap.imports });

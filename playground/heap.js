@@ -11,7 +11,8 @@ class EngineHeap {
   static PAGE = 65536;
   static PAGES_AT_ONCE = 16;
 
-  /* `limit` is how many bytes the whole memory has at most. */
+  /* `limit` is how many bytes the whole memory has at most. No address reaches it, so each fits
+   * into 32 bits, to which the page's module cuts it. */
   constructor(limit = 2 ** 31) {
     this.limit = limit;
     this.taken = new Map();       // address: size, of the blocks that are in use

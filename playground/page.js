@@ -224,9 +224,10 @@ function showAbout() {
     const [word, ...rest] = row.split(" ");
     return [word, rest.join(" ")];
   }));
-  const {version = "", commit = "", module: sum = ""} = said;
+  const {version = "", commit = "", crates = "", module: linked = "", lowered = ""} = said;
   $("version").textContent = `mos65 ${version}, commit ${commit.slice(0, 8)}`;
-  $("sums").textContent = `Commit ${commit}. SHA-256 of the module: ${sum}`;
+  $("sums").textContent = `Commit ${commit}. Module of the crates of commit ${crates}: SHA-256 `
+    + `${linked}. As this page has it, with 32-bit addresses: ${lowered}`;
 }
 
 // The list of keys opens at its top: its button at the end has the focus first, and is scrolled to.
@@ -241,8 +242,7 @@ function openHelpAtTop() {
 }
 
 function tellNoEngine(fault) {
-  const isOld = fault.memory64 === false;
-  tell(isOld ? NO_MEMORY64 : "The engine cannot be started: " + fault.message, true);
+  tell(fault.isOld ? NO_WEBASSEMBLY : "The engine cannot be started: " + fault.message, true);
   for (const button of $("tools").querySelectorAll("button")) button.disabled = true;
 }
 

@@ -1,6 +1,6 @@
 "use strict";
 // What the page says of a run and of a source.
-const {reasonTold, endTold, countOf, warningTold, begunTold, notesTold, NO_MEMORY64} = (() => {
+const {reasonTold, endTold, countOf, warningTold, begunTold, notesTold, NO_WEBASSEMBLY} = (() => {
 
 // What a reason of the session means, in words.
 function reasonTold({why, address, status, opcode}) {
@@ -68,13 +68,12 @@ function longTold() {
 
 const notesTold = () => heldTold() + begunTold() + longTold() + warningTold();
 
-const NO_MEMORY64 = "This browser cannot run the engine: it has no WebAssembly with 64-bit memory."
-  + " Chromium 156 and Firefox 153 were tried; Chrome and Edge should have it from version 133,"
-  + " Firefox from 134, and Safari had none when this page was made. Take one of these, or ask for a"
-  + " page of a run, which every browser shows.";
+const NO_WEBASSEMBLY = "This browser cannot run the engine: it has no WebAssembly, or an old one."
+  + " Chromium 156, Firefox 153 and WebKit 2.50, the engine of Safari, were tried. Take a newer"
+  + " browser, or ask for a page of a run, which every browser shows.";
 
-return {reasonTold, endTold, countOf, warningTold, begunTold, notesTold, NO_MEMORY64};
+return {reasonTold, endTold, countOf, warningTold, begunTold, notesTold, NO_WEBASSEMBLY};
 })();
 if (typeof module !== "undefined") {
-  module.exports = {reasonTold, endTold, countOf, warningTold, begunTold, notesTold, NO_MEMORY64};
+  module.exports = {reasonTold, endTold, countOf, warningTold, begunTold, notesTold, NO_WEBASSEMBLY};
 }

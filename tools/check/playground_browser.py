@@ -2,15 +2,16 @@
 """Tries the playground's page in a headless Chromium: by its own buttons and keys, as a user would.
 
     tools/check/playground_browser.py [PAGE.html] [--sessions N] [--seed N] [--only try_NAME,..]
-                                      [--but try_NAME] [--firefox]
+                                      [--but try_NAME] [--firefox | --webkit]
 
 Random sessions (60 if no number is given) type a source, and press buttons and keys. After each the page
 has to show what tools/models/playground_model.py says, and at the end what the module answers when it is called
-directly. Then each of the checks below runs once. Where there is no Chromium, a line says so, and where
-the page's module is of older crates, the texts of docs/MANUAL.md are left out. The last line is 'N
-passed, M failed'.
+directly. Then each of the checks below runs once. Where there is no such browser, a line says so, and
+where the page's module is of older crates, the texts of docs/MANUAL.md are left out. The last line is
+'N passed, M failed'.
 
-With `--firefox` it is a Firefox, and checks that ask for what Chromium alone tells are left out."""
+With `--firefox` it is a Firefox, with `--webkit` WebKit, the engine of Safari; checks that ask for what
+Chromium alone tells are left out there."""
 
 import json
 import os
@@ -27,6 +28,7 @@ from testing import TOP
 import browser as browsers
 import firefox
 import playground_page as pages
+import webkit
 from page_model import machine, store
 from playground_model import Model
 
@@ -139,14 +141,15 @@ class Page:
         self.browser.close()
 
 
-class FirefoxPage(Page):
-    """The same in Firefox."""
+class OtherPage(Page):
+    """The same in Firefox or WebKit."""
 
-    def __init__(self, path):
+    def __init__(self, path, driver):
         self.path = path
-        self.browser = firefox.Browser()
+        self.browser = driver.Browser()
         self.js, self.click_on = self.browser.js, self.browser.click
-        print(f"Firefox {self.browser.about['browserVersion']}")
+        about = self.browser.about
+        print(f"{about['browserName']} {about['browserVersion']}")
         self.open()
 
     def show(self, path, part=""):
@@ -682,11 +685,11 @@ def try_refused(page, tally, how):
 
 
 def try_old_browser(page, tally, how):
-    """Where there is no 64-bit memory, a sentence says so."""
+    """Where WebAssembly does not take the module, a sentence says so."""
     script = page.browser.call("Page.addScriptToEvaluateOnNewDocument",
                                source="WebAssembly.validate = () => false")["identifier"]
     page.open()
-    tally.holds("without a 64-bit memory", page.told().startswith("This browser cannot run the engine"))
+    tally.holds("without WebAssembly", page.told().startswith("This browser cannot run the engine"))
     tally.holds("no button works", page.js("document.querySelector('#go').disabled"))
     page.browser.call("Page.removeScriptToEvaluateOnNewDocument", identifier=script)
     page.open()
@@ -937,7 +940,7 @@ OF_MANUAL = [try_faults, try_warnings]
 def errors_of(page, tally):
     errors = [it for it in page.browser.errors if "Canvas2D" not in it]
     tally.compare("errors on the console", errors, [])
-    if isinstance(page, FirefoxPage):
+    if isinstance(page, OtherPage):
         return
     asked = [it for it in page.browser.requests if not it.startswith(("file:", "about:", "blob:"))]
     tally.compare("requests", asked, [])
@@ -946,7 +949,8 @@ def errors_of(page, tally):
 def asked_for(how, tally):
     """The checks to make: those of `--only`, without that of `--but`."""
     only = how.only.split(",")
-    checks = [it for it in CHECKS if not (how.firefox and it in OF_CHROMIUM)
+    is_other = how.firefox or how.webkit
+    checks = [it for it in CHECKS if not (is_other and it in OF_CHROMIUM)
               and any(name in it.__name__ for name in only) and how.but not in it.__name__]
     of_manual = [it for it in checks if it in OF_MANUAL]
     if how.page or not of_manual or pages.has_new_module():
@@ -956,25 +960,39 @@ def asked_for(how, tally):
     return [it for it in checks if it not in of_manual]
 
 
+def opened(how, tally):
+    """The page in the browser that is asked for, or None where that is not here."""
+    name, driver = (("Firefox", firefox) if how.firefox else
+                    ("WebKit", webkit) if how.webkit else ("Chromium", browsers))
+    if not driver.find():
+        tally.leave_out(f"the playground's page in {name}", "it is not here")
+        return None
+    path = how.page or PAGE
+    return Page(path) if driver is browsers else OtherPage(path, driver)
+
+
+def try_all(page, tally, how):
+    for check in asked_for(how, tally):
+        began, failed = time.monotonic(), tally.failed
+        try:
+            check(page, tally, how)
+        except Exception:                    # one check that ends early ends no other
+            tally.holds(f"{check.__name__}: {traceback.format_exc()}", False)
+        took = time.monotonic() - began
+        said = f"{check.__name__}: {took:.0f} seconds, {tally.failed - failed} failed"
+        print(said, flush=True)
+    errors_of(page, tally)
+
+
 def main():
-    options = {"only": "", "but": "none", "firefox": False}
+    options = {"only": "", "but": "none", "firefox": False, "webkit": False}
     how, tally = testing.asked(__doc__, "page?", sessions=60, seed=1, **options), Tally()
-    if not (firefox if how.firefox else browsers).find():
-        name = "Firefox" if how.firefox else "Chromium"
-        tally.leave_out("the playground's page", f"no {name} is here")
-    else:
-        page = (FirefoxPage if how.firefox else Page)(how.page or PAGE)
-        for check in asked_for(how, tally):
-            began, failed = time.monotonic(), tally.failed
-            try:
-                check(page, tally, how)
-            except Exception:                    # one check that ends early ends no other
-                tally.holds(f"{check.__name__}: {traceback.format_exc()}", False)
-            took = time.monotonic() - began
-            said = f"{check.__name__}: {took:.0f} seconds, {tally.failed - failed} failed"
-            print(said, flush=True)
-        errors_of(page, tally)
-        page.close()
+    page = opened(how, tally)
+    if page:
+        try:
+            try_all(page, tally, how)
+        finally:
+            page.close()
     return tally.end()
 
 
