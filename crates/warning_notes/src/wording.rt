@@ -43,7 +43,7 @@ pub const VECTOR_TO_DATA: &str = "VectorToData";
 pub const HANDLER_RETURNS: &str = "HandlerReturns";
 
 /// Stands between a number that is an address and the same number.
-pub const IS_AN_ADDRESS: &str = " is an address, and nothing writes there; the number is #";
+pub const IS_AN_ADDRESS: &str = " is an address, and nothing writes there; for the number write #";
 
 /// What is said of an operand that takes two bytes.
 pub const TAKES_TWO_BYTES: &str = "below 256, but known only later: it takes two bytes here";

@@ -1,5 +1,5 @@
 -- Operands that are an address of the zero page which nothing writes. Source: mos65.
-use Rattle.std.specs.Prelude.{ℕ, ℤ, pos, negsuc, ◌+◌, ◌==◌, nat_le, nat_lt, Bool, true, false, not, ◌&&◌, if◌then◌else◌, List, [], ◌∷◌, Option, Some, None, is_some, Result, Ok, Err}
+use Rattle.std.specs.Prelude.{ℕ, ℤ, pos, negsuc, ◌+◌, ◌==◌, nat_le, nat_lt, Bool, true, false, not, ◌&&◌, ◌||◌, if◌then◌else◌, List, [], ◌∷◌, Option, Some, None, is_some, Result, Ok, Err}
 use Rattle.std.specs.List.{list_any}
 use Rattle.model.specs.Effect.{operation_of}
 use Rattle.model.specs.Expression.{Term, literal, name, here, negated, binary, low, high}
@@ -15,6 +15,7 @@ use Rattle.model.specs.declared.line.Index.{Index}
 use Rattle.model.specs.declared.line.Index.TheVariants.{Unindexed, X, Y}
 use Rattle.model.specs.declared.operation.Operation.{Operation}
 use Rattle.model.specs.declared.operation.Operation.TheVariants as operation
+use Rattle.model.specs.declared.operation.ReadOp.TheVariants as read_op
 use Rattle.warnings.specs.declared.written_numbers.Reach.{Reach}
 use Rattle.warnings.specs.Placed.{Placed}
 
@@ -115,6 +116,17 @@ number_alone (binary op a b) = None
 number_alone (low e) = None
 number_alone (high e) = None
 
+-- Where Easy6502 and the playground's screen put a random byte, $FE, and the last key, $FF.
+abbrev pub inputs : Reach
+inputs = record { least = 254; next = 256 }
+
+-- Whether an operation loads a register.
+abbrev pub is_load : Operation → Bool
+is_load (operation.Read read_op.Lda) = true
+is_load (operation.Read read_op.Ldx) = true
+is_load (operation.Read read_op.Ldy) = true
+is_load other = false
+
 abbrev pub is_unwritten : Option ℤ → List Reach → Bool
 is_unwritten None rs = false
 is_unwritten (Some n) rs = not (is_written n rs)
@@ -133,6 +145,11 @@ is_plain_operand (pointer e) rs = false
 is_plain_operand (pointer_by_x e) rs = false
 is_plain_operand (pointer_by_y e) rs = false
 
+-- A load may read what a screen puts there.
+abbrev pub is_plain_for : Operation → Operand → List Reach → Bool
+is_plain_for op operand rs = is_plain_operand operand rs
+    && (not (is_load op) || is_plain_operand operand (inputs ∷ []))
+
 abbrev pub is_plain_statement : Profile → Statement → List Reach → Bool
 is_plain_statement profile nothing rs = false
 is_plain_statement profile (origin e) rs = false
@@ -142,7 +159,7 @@ is_plain_statement profile (words_high_first es) rs = false
 is_plain_statement profile (reserve e) rs = false
 is_plain_statement profile finish rs = false
 is_plain_statement profile (instruction m operand) rs
-    = is_some (opcode_of profile m Imm) && is_plain_operand operand rs
+    = is_some (opcode_of profile m Imm) && is_plain_for (operation_of m) operand rs
 
 abbrev pub is_plain_line : Profile → Option Line → List Reach → Bool
 is_plain_line profile None rs = false
@@ -150,6 +167,6 @@ is_plain_line profile (Some (labelled label s)) rs = is_plain_statement profile 
 is_plain_line profile (Some (definition word e)) rs = false
 
 -- Whether a line is an instruction of two bytes whose operand is a number alone, an address that
--- nothing writes, and which takes the number itself too, after `#`.
+-- nothing writes, and which takes the number itself too, after `#`. A load from $FE or $FF is none.
 abbrev pub is_plain : Profile → Placed → List Reach → Bool
 is_plain profile p rs = p.size == 2 && is_plain_line profile p.line rs

@@ -4,16 +4,16 @@ ghost use Rattle.std.specs.Prelude.{◌≡◌};
 ghost use Rattle.line_parts.specs.Contents.{map_option};
 ghost use Rattle.line_parts.specs.LineViews.{line_view, operand_view, statement_view};
 ghost use Rattle.line_parts.specs.TermViews.{term_view};
-ghost use Rattle.warnings.specs.Reaches.{covers, is_plain, is_plain_line, is_plain_operand};
-ghost use Rattle.warnings.specs.Reaches.{is_plain_statement, is_plain_term, is_unwritten};
-ghost use Rattle.warnings.specs.Reaches.{is_written, number_alone};
+ghost use Rattle.warnings.specs.Reaches.{covers, is_load, is_plain, is_plain_for, is_plain_line};
+ghost use Rattle.warnings.specs.Reaches.{is_plain_operand, is_plain_statement, is_plain_term};
+ghost use Rattle.warnings.specs.Reaches.{is_unwritten, is_written, number_alone};
 ghost use Rattle.warnings.specs.Views.{placed_view};
 
 use crate::placed_line::PlacedLine;
 use crate::written_numbers::Reach;
 use line_parts::{Expr, Line, Operand, Statement};
-use model::{Index, Mode, Profile};
-use optable::encode_in;
+use model::{Index, Mode, Operation, Profile, ReadOp};
+use optable::{encode_in, operation};
 
 /// Whether a number is one of a reach's addresses.
 fn covers(number: i32, reach: Reach) -> bool
@@ -78,13 +78,38 @@ fn is_plain_operand(operand: &Operand<'_>, reaches: &[Reach]) -> bool
     }
 }
 
+/// Where a screen puts a random byte, $FE, and the last key, $FF (Easy6502).
+const INPUTS: Reach = Reach {
+    least: 254,
+    next: 256,
+};
+
+/// Whether an operation loads a register.
+fn is_load(operation: Operation) -> bool
+    ensures { result ≡ is_load operation }
+{
+    matches!(
+        operation,
+        Operation::Read(ReadOp::Lda | ReadOp::Ldx | ReadOp::Ldy)
+    )
+}
+
+/// Whether an operand is a number alone that nothing writes, nor a screen if the operation loads it.
+fn is_plain_for(operation: Operation, operand: &Operand<'_>, reaches: &[Reach]) -> bool
+    ensures { result ≡ is_plain_for operation (operand_view operand.now) reaches.now }
+{
+    is_plain_operand(operand, reaches)
+        && (!is_load(operation) || is_plain_operand(operand, &[INPUTS]))
+}
+
 /// Whether a statement has such an operand and takes a number after `#` too.
 fn is_plain_statement(profile: Profile, statement: &Statement<'_>, reaches: &[Reach]) -> bool
     ensures { result ≡ is_plain_statement profile (statement_view statement.now) reaches.now }
 {
     match statement {
         Statement::Instruction(mnemonic, operand) => {
-            encode_in(profile, *mnemonic, Mode::Imm).is_some() && is_plain_operand(operand, reaches)
+            encode_in(profile, *mnemonic, Mode::Imm).is_some()
+                && is_plain_for(operation(*mnemonic), operand, reaches)
         }
         _ => false,
     }
@@ -101,7 +126,8 @@ fn is_plain_line(profile: Profile, line: &Option<Line<'_>>, reaches: &[Reach]) -
 }
 
 /// Returns whether a line is an instruction of two bytes whose operand is a number alone, an
-/// address that is none of these, and which takes the number itself too, after `#`.
+/// address that is none of these, and which takes the number itself too, after `#`. A load from $FE
+/// or $FF, where a screen puts a random byte and the last key, is none.
 pub fn is_plain(profile: Profile, line: &PlacedLine<'_>, reaches: &[Reach]) -> bool
     ensures { result ≡ is_plain profile (placed_view line.now) reaches.now }
 {
