@@ -53,7 +53,7 @@ pub const TRY_PORT: &str = "; --port ";
 
 pub const IS_FREE: &str = " is free, or --port none\n";
 
-pub const NONE_IS_FREE: &str = "; no base is free, try --port none\n";
+pub const NONE_IS_FREE: &str = "; --port none leaves the port out\n";
 
 /// What an option takes, where its value is wrong.
 pub const PORT_TAKES: &str = "--port takes four hex digits, or none";

@@ -265,7 +265,7 @@ fn tell_port<E: Write>(path: &str, first: u32, last: u32, free: Option<u16>, tex
     );
     let _ = match free {
         Some(base) => writeln!(text, "port={base:04X} in the head is free, or port=none"),
-        None => writeln!(text, "no base is free, try port=none in the head"),
+        None => writeln!(text, "port=none in the head leaves the port out"),
     };
 }
 

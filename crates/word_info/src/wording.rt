@@ -62,7 +62,7 @@ pub const CLASH: &str = " of the image; --port ";
 
 pub const FREE: &str = " is free, or --port none\n";
 
-pub const NO_BASE: &str = " of the image; no base is free, try --port none\n";
+pub const NO_BASE: &str = " of the image; --port none leaves the port out\n";
 
 pub const MEND_MENDS_IT: &str = "`mend` mends it\n";
 
