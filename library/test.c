@@ -167,7 +167,7 @@ static void warnings(void) {
     static const char plain[] = "        *=$0200\n        LDA 10\n        STA 11\n        LDX 11\n        LDA #10\n"
         "        BRK\n        *=$FFFC\n        .WORD $0200\n";
     static const char told[] =
-        "plain.a65:2:13: warning: PlainNumber: 10 is an address, and nothing writes there; the number is #10\n"
+        "plain.a65:2:13: warning: PlainNumber: 10 is an address, and nothing writes there; for the number write #10\n"
         "        LDA 10\n"
         "            ^~\n"
         "1 warning\n";
