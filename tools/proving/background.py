@@ -174,15 +174,26 @@ class Watch:
         self.before, self.total = len(proving.proved(wanted)), len(wanted)
         self.proof.note(self.before, self.total, self.began)
 
-    def look(self, build):
-        """Raises Ended where the proof may not go on. `build` is what is at work."""
+    def is_time(self):
+        """Whether it is time to look again, and then raises Ended where the proof may not go on."""
         if time.monotonic() - self.looked < LOOK_EVERY:
-            return
+            return False
         self.looked = time.monotonic()
         if not self.proof.is_held():
             raise Ended("ended: the folder of the cache is gone")
-        build.at_once = self.most if self.proof.is_waited_for() else self.least
         self.look_at_sources()
+        return True
+
+    def pause(self, seconds):
+        """Waits before the proof, and raises Ended where that may not begin."""
+        proving.Stop.pause(seconds)
+        self.is_time()
+
+    def look(self, build):
+        """Raises Ended where the proof may not go on. `build` is what is at work."""
+        if not self.is_time():
+            return
+        build.at_once = self.most if self.proof.is_waited_for() else self.least
         done = self.before + build.count()
         self.proof.note(done, self.total, self.began)
 
@@ -199,26 +210,31 @@ class Watch:
         self.state = state
 
 
-def begin(proof, words):
-    """Starts the words as a proof, in a session of its own without a terminal, and waits a moment
-    until it is at work."""
+def start(words, folder, log):
+    """Starts a command in a folder, in a session of its own without a terminal. What it says goes to
+    the folder's file `log`."""
     if os.fork():
         os.wait()
-        for _ in range(20):
-            if proof.is_at_work():
-                return
-            time.sleep(0.05)
         return
     os.setsid()
     if os.fork():
         os._exit(0)
     try:
-        log = os.open(proof.file("log"), os.O_WRONLY | os.O_CREAT | os.O_TRUNC, 0o600)
+        log = os.open(f"{folder}/{log}", os.O_WRONLY | os.O_CREAT | os.O_TRUNC, 0o600)
         null = os.open(os.devnull, os.O_RDONLY)
         for source, target in ((null, 0), (log, 1), (log, 2)):
             os.dup2(source, target)
         os.closerange(3, 256)
-        os.chdir(proof.room)
+        os.chdir(folder)
         os.execv(sys.executable, [sys.executable, *words])
     finally:
         os._exit(proving.NOT_BUILT)
+
+
+def begin(proof, words):
+    """Starts the words as a proof, and waits a moment until it is at work."""
+    start(words, proof.room, "proof.log")
+    for _ in range(20):
+        if proof.is_at_work():
+            return
+        time.sleep(0.05)

@@ -11,7 +11,7 @@ All of this stands in a folder of the user's cache, one for each clone:
     sources/        the sources as they were when the run began
     work/NAME/      the workspace of a crate that is being proved
     seconds         processor seconds of each crate that was proved from nothing
-    first-look      the program without proof, of tools/proving/first-look
+    unproved/       the programs without proof, of tools/proving/unproved.py
     proof.NAME      what tools/proving/background.py keeps
     proved          the sums of the crates that were proved and tested, for `tools/prove changed`
 

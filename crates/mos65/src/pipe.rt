@@ -10,6 +10,11 @@ use std::io::{ErrorKind, Write};
 /// that SIGPIPE ended, as `cat`.
 pub const UNREAD: u8 = 141;
 
+/// Returns the words behind the command's name, which stands first.
+pub fn after_name<'a>(words: &'a [&'a str]) -> &'a [&'a str] {
+    if words.is_empty() { words } else { &words[1..] }
+}
+
 /// A writer that notes whether a write failed since nobody reads what is written.
 #[derive(Drop)]
 pub struct Piped<'a, W: Write> {

@@ -1,0 +1,16 @@
+//! The command `mend`.
+
+use crate::pipe::{Piped, Quiet, after_name};
+use std::cell::Cell;
+use std::io;
+use word_mend::tape_mend;
+
+/// Serves `mend`, and returns the exit status. `words` begin with the command's name.
+pub fn serve(rt: &HostRuntime, words: &[&str], unread: &Cell<bool>) -> u8 {
+    tape_mend(
+        rt,
+        after_name(words),
+        &mut Piped::new(io::writer(rt), unread),
+        &mut Quiet::new(rt.stderr(), unread),
+    )
+}

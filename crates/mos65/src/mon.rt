@@ -1,0 +1,21 @@
+//! The command `mon`.
+
+use crate::debug_file::with_program;
+use crate::pipe::{Piped, Quiet, after_name};
+use standard_streams::Retrying;
+use std::cell::Cell;
+use std::io;
+use word_mon::mon;
+
+/// Serves `mon`, and returns the exit status. `words` begin with the command's name.
+pub fn serve(rt: &HostRuntime, words: &[&str], unread: &Cell<bool>) -> u8 {
+    with_program(rt, after_name(words), unread, |all| {
+        mon(
+            rt,
+            all,
+            &mut Retrying::new(rt.reader()),
+            &mut Piped::new(io::writer(rt), unread),
+            &mut Quiet::new(rt.stderr(), unread),
+        )
+    })
+}

@@ -1,0 +1,19 @@
+//! The command `page`.
+
+use crate::debug_file::with_program;
+use crate::pipe::{Piped, Quiet, after_name};
+use std::cell::Cell;
+use std::io;
+use word_page::page;
+
+/// Serves `page`, and returns the exit status. `words` begin with the command's name.
+pub fn serve(rt: &HostRuntime, words: &[&str], unread: &Cell<bool>) -> u8 {
+    with_program(rt, after_name(words), unread, |all| {
+        page(
+            rt,
+            all,
+            &mut Piped::new(io::writer(rt), unread),
+            &mut Quiet::new(rt.stderr(), unread),
+        )
+    })
+}

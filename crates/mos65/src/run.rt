@@ -1,0 +1,22 @@
+//! The command `run`.
+
+use crate::debug_file::with_program;
+use crate::pipe::{Piped, Quiet, after_name};
+use standard_streams::Retrying;
+use std::cell::Cell;
+use std::io;
+use word_run::{Interruptible, open_requests, run_program};
+
+/// Serves `run`, and returns the exit status. `words` begin with the command's name.
+pub fn serve(rt: &HostRuntime, words: &[&str], unread: &Cell<bool>) -> u8 {
+    with_program(rt, after_name(words), unread, |all| {
+        let output = Piped::new(io::writer(rt), unread);
+        run_program(
+            rt,
+            all,
+            &mut Retrying::new(rt.reader()),
+            &mut Interruptible::new(output, open_requests(rt)),
+            &mut Quiet::new(rt.stderr(), unread),
+        )
+    })
+}
