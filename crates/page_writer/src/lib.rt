@@ -10,7 +10,8 @@
 //!
 //! `facts_of` and `source_of` make what is told of a program (`specs/Facts.antt`), with the files
 //! of one that another tool built (`specs/Files.antt`); `push_opening` adds what a page shows when
-//! it is opened, and `viewer` is the template between whose parts it stands.
+//! it is opened, and `viewer` is the template between whose parts it stands. A page of another run
+//! is known by `PAGE_FRONT`, with which each page of this viewer begins.
 #![tactic(auto)]
 
 mod facts;
@@ -31,4 +32,5 @@ pub use facts::{Program, facts_of, source_of};
 pub use opening::{Note, Opening, push_opening};
 pub use page::{Template, Texts, page_of, write_page};
 pub use page_data::SendFault;
+pub use pieces::PAGE_FRONT;
 pub use template::viewer;
