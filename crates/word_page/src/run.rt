@@ -22,15 +22,16 @@ use crate::notes::{MOST_NOTES, read_notes};
 use crate::words::{PageWords, read_page_words};
 use accesses::Written;
 use arguments::{
-    FileRefusal, NewFile, Refusal, begin_file, check_outputs, check_replaced, read_most,
-    refused_words,
+    FileRefusal, Refusal, check_output, check_outputs, check_replaced, read_most, refused_words,
+    write_file,
 };
 use assembler::Assembly;
 use console::Played;
 use debug_files::{check_sources, tell_changed};
 use loading::{Loaded, load, load_counted_names, place_of, tell_left_out};
 use page_writer::{
-    Note, Opening, Program, SendFault, Texts, facts_of, push_opening, source_of, viewer, write_page,
+    Note, Opening, PAGE_FRONT, Program, Texts, facts_of, push_opening, source_of, viewer,
+    write_page,
 };
 use source_map::Places;
 use std::alloc::{AllocError, Global};
@@ -40,9 +41,6 @@ use word_run::{Known, load_debug, place_named, status_of_ending, tell_ending};
 
 /// The most bytes of input that a program can be given.
 const MOST_INPUT: u64 = 65_536;
-
-/// How each page begins.
-const PAGE_FRONT: &[u8] = b"<!doctype html>";
 
 /// What a page says of a program besides its run.
 #[derive(Drop)]
@@ -136,29 +134,30 @@ fn said_of(
     Ok(Said { facts, source })
 }
 
-/// Begins a file of the name of a page, unless it is one that was read, or is there and is no page.
-fn created<'a, H: Files + AllocGlobal>(
+/// Checks that a page can be written to a file of that name: none that was read, and where one is
+/// there, a page or an empty file. It stays as it is.
+fn check_new<H: Files + AllocGlobal>(
     rt: &H,
-    out: &'a str,
-    read: &[Option<&'a str>],
-) -> Result<NewFile<'a, H::File>, Refusal>
+    out: &str,
+    read: &[Option<&str>],
+) -> Result<(), Refusal>
     ensures { IfErr result EndsWriting }
 {
     check_outputs(rt, read, &[Some(out)])?;
-    check_replaced(rt, out, PAGE_FRONT)?;
-    begin_file(rt, out)
+    check_replaced(rt, out, PAGE_FRONT.as_bytes())?;
+    check_output(rt, out)
 }
 
-/// Begins the file of the page, unless it is one that was read or a source that debug information
-/// names, or is there and is no page.
+/// Checks that the page can be written, before its run: to none of the files that were read, to no
+/// source that debug information names, and over no file that is there and is no page.
 ///
-/// Errors: `WriteFile` if it is, or cannot be made; `OutOfMemory` if an allocation fails.
+/// Errors: `WriteFile` if it cannot; `OutOfMemory` if an allocation fails.
 #[tactic(auto, using(crate::proofs::Ends::unwritten_ends))]
-fn begun_file<'a, H: Files + AllocGlobal>(
+fn check_page<H: Files + AllocGlobal>(
     rt: &H,
-    words: &PageWords<'a>,
+    words: &PageWords<'_>,
     debug: Option<&Places>,
-) -> Result<NewFile<'a, H::File>, Refusal>
+) -> Result<(), Refusal>
     ensures apart { IfOk result
         (λ _. IsApart (page_view words.now) (option_map (λ p. p.now) debug.entry)) }
     ensures refused { IfErr result EndsFile }
@@ -178,7 +177,16 @@ fn begun_file<'a, H: Files + AllocGlobal>(
         words.input,
         notes,
     ];
-    Ok(created(rt, words.out, &read)?)
+    Ok(check_new(rt, words.out, &read)?)
+}
+
+/// Writes a page to a file, unless something else came there while the page was made.
+#[tactic(auto, using(crate::proofs::Ends::unwritten_ends))]
+fn put_page<H: Files + AllocGlobal>(rt: &H, out: &str, page: &[u8]) -> Result<(), Refusal>
+    ensures { IfErr result EndsFile }
+{
+    check_replaced(rt, out, PAGE_FRONT.as_bytes())?;
+    Ok(write_file(rt, out, page)?)
 }
 
 /// Returns the addresses that count as written when the run begins.
@@ -194,31 +202,22 @@ fn first_written(
     Ok(written.or_everywhere(words.is_free))
 }
 
-/// Returns what the failure of a page means for the program.
-fn refusal_of(fault: SendFault) -> Refusal
-    ensures { EndsFile result }
-{
-    match fault {
-        SendFault::OutOfMemory => Refusal::OutOfMemory,
-        SendFault::Write => Refusal::Write,
-    }
-}
-
-/// Runs what was loaded over an input, and writes the page to a file.
-fn write_run<W: Write>(
+/// Runs what was loaded over an input, and returns how that ended and its page.
+///
+/// Errors: `OutOfMemory` if an allocation fails, and nothing else: the page is written to memory.
+fn page_of_run(
     alloc: Global,
     words: &PageWords<'_>,
     loaded: &mut Loaded,
     said: &Said,
     until: Option<u16>,
     input: &[u8],
-    file: &mut W,
-) -> Result<Played, Refusal>
-    ensures ran { IfOk result (λ end. Ran until words.now.steps
+) -> Result<(Played, Vec<u8>), Refusal>
+    ensures ran { IfOk result (λ made. Ran until words.now.steps
         (start_in words.now.is_free loaded.old.session loaded.old.written)
-        input.now end loaded.new.session) }
+        input.now made.0 loaded.new.session) }
     ensures assembly { loaded.new.assembly ≡ loaded.old.assembly }
-    ensures refused { IfErr result EndsFile }
+    ensures refused { IfErr result (λ why. why ≡ Refusal.OutOfMemory) }
 {
     let Ok(written) = first_written(alloc, words, loaded) else {
         return Err(Refusal::OutOfMemory);
@@ -230,27 +229,17 @@ fn write_run<W: Write>(
     let viewer = viewer();
     let session = &mut loaded.session;
     let steps = words.steps;
-    write_page(
-        alloc, &viewer, &texts, session, written, until, steps, input, file,
-    )
-    .map_err(refusal_of)
-}
-
-/// Leaves the file of a page that was not written whole, and returns why it was not.
-#[tactic(auto, using(crate::proofs::Ends::unwritten_ends))]
-fn unwritten<H: Files>(rt: &H, refusal: Refusal, file: NewFile<'_, H::File>) -> Refusal
-    requires { EndsFile refusal }
-    ensures { EndsFile result }
-{
-    let why = file.abandon(rt);
-    match refusal {
-        Refusal::Write => why,
-        refusal => refusal,
+    let mut page = Vec::new(alloc);
+    match write_page(
+        alloc, &viewer, &texts, session, written, until, steps, input, &mut page,
+    ) {
+        Ok(played) => Ok((played, page)),
+        Err(_) => Err(Refusal::OutOfMemory),
     }
 }
 
-/// Makes the file of the page, and writes the run of what was loaded over an input.
-#[tactic(auto, using(crate::proofs::Ends::unwritten_ends))]
+/// Runs what was loaded over an input, and writes the page of the run to its file, which was
+/// checked before the run and is written after it.
 fn make_page<H: Files + AllocGlobal>(
     rt: &H,
     words: &PageWords<'_>,
@@ -272,14 +261,10 @@ fn make_page<H: Files + AllocGlobal>(
     let Ok(said) = said_of(rt.alloc(), words, loaded, names, debug, opening) else {
         return Err(Refusal::OutOfMemory);
     };
-    let mut file = begun_file(rt, words, debug)?;
-    match write_run(rt.alloc(), words, loaded, &said, until, input, &mut file) {
-        Ok(played) => {
-            file.end(rt)?;
-            Ok(played)
-        }
-        Err(refusal) => Err(unwritten(rt, refusal, file)),
-    }
+    check_page(rt, words, debug)?;
+    let (played, page) = page_of_run(rt.alloc(), words, loaded, &said, until, input)?;
+    put_page(rt, words.out, page.as_slice())?;
+    Ok(played)
 }
 
 /// Reads the input and the notes that are asked for, and writes the page of what was loaded.
@@ -454,7 +439,8 @@ fn show_words<H: Files + AllocGlobal, E: Write>(rt: &H, words: &PageWords<'_>, e
 ///
 /// For each status but 0 a line on `errors` says why, and one says which sources have changed since
 /// the debug information was made; that a line cannot be written changes no status.
-/// A page that was at the name of the page is replaced.
+/// A page that was at the name of the page is replaced, by the whole one: it stands in memory until
+/// the run has ended, so a run that is cut leaves what was there and no file beside it.
 pub fn page<H: Files + AllocGlobal, O: Write, E: Write>(
     rt: &H,
     words: &[&str],
