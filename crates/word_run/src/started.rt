@@ -9,8 +9,8 @@ ghost use Rattle.word_run.specs.Statuses.{refusal_of};
 ghost use Rattle.word_run.specs.Told.{line_fault, unplaced_line, unplaced_word, why_unplaced};
 
 use crate::places::place_known;
-use crate::wording::{NO_FILE, NO_LINE, NO_PLACE, PROGRAM};
-use arguments::{ReadFault, Refusal, put_three};
+use crate::wording::{NO_FILE, NO_LINE, NO_PLACE};
+use arguments::{ReadFault, Refusal, put_named};
 use console::PlayFault;
 use loading::Loaded;
 use mon_line_parts::{line_number, own_line};
@@ -46,13 +46,13 @@ fn why_unplaced(debug: Option<&Places>, word: &[u8]) -> &'static str
     }
 }
 
-/// Writes that a word stands for no place, and why.
+/// Writes that a word stands for no place, and why. The word is shown as the name of a file is.
 fn tell_unplaced<E: Write>(debug: Option<&Places>, word: &str, errors: &mut E)
     ensures { AppendsFront (E.contents errors.old) (E.contents errors.new)
         (unplaced_word (option_map (λ p. p.now) debug.entry) word.now) }
 {
     let why = why_unplaced(debug, word.as_bytes());
-    put_three(PROGRAM.as_bytes(), word.as_bytes(), why.as_bytes(), errors);
+    put_named(word, &[why.as_bytes()], errors);
 }
 
 /// Returns the address of the place that a word names, or `None` if there is no word.
