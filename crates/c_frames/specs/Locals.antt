@@ -1,10 +1,12 @@
 -- Where parameters and locals are: an `auto` of the debug file stands at an offset from the base of
--- its frame. Source: cc65 2.19; mos65 for sizes, and for what is not shown.
-use Rattle.std.specs.Prelude.{ℕ, ◌+◌, ◌-◌, ◌%◌, ◌&&◌, nat_lt, if◌then◌else◌, List, [], ◌∷◌, Option, Some, None}
+-- its frame. Source: cc65 2.19, whose files say no sizes; our own rule for sizes, and for what is
+-- not shown.
+use Rattle.std.specs.Prelude.{ℕ, ◌+◌, ◌-◌, ◌%◌, ◌&&◌, nat_lt, Bool, if◌then◌else◌, List, [], ◌∷◌, Option, Some, None}
 use Rattle.std.specs.Option.{option_and_then, option_map}
 use Rattle.c_frames.specs.Closures.{depth_at}
 use Rattle.c_frames.specs.Frames.{known, pushed_first}
 use Rattle.c_frames.specs.Programs.{Program}
+use Rattle.c_frames.specs.declared.locals.Auto.{Auto}
 use Rattle.c_frames.specs.declared.locals.Local.{Local}
 use Rattle.c_frames.specs.declared.programs.Function.{Function}
 use Rattle.c_frames.specs.declared.rises.Depth.{Depth}
@@ -19,10 +21,10 @@ nearer local None other = if nat_lt local other then Some other else None
 nearer local (Some best) other = if nat_lt local other && nat_lt other best then Some other
     else Some best
 
-abbrev pub nearest : ℕ → ℕ → Option ℕ → List ℕ → Option ℕ
+abbrev pub nearest : ℕ → ℕ → Option ℕ → List Auto → Option ℕ
 nearest local base best [] = best
-nearest local base best (offset ∷ offsets)
-    = nearest local base (nearer local best (local_address base offset)) offsets
+nearest local base best (auto ∷ autos)
+    = nearest local base (nearer local best (local_address base auto.offset)) autos
 
 -- A function takes its parameters off at its end, those that it pushed first of all too.
 abbrev pub parameters_end : Program → List Depth → Function → ℕ → Option ℕ
@@ -36,21 +38,28 @@ nearer_end local best (Some end) = nearer local best end
 
 -- A local reaches to the next one above it, to the base of its frame, or to the end of the
 -- parameters.
-abbrev pub end_of : Program → List Depth → Function → ℕ → List ℕ → ℕ → Option ℕ
-end_of p rests function base offsets local = nearest local base
-    (nearer_end local (nearer local None base) (parameters_end p rests function base)) offsets
+abbrev pub end_of : Program → List Depth → Function → ℕ → List Auto → ℕ → Option ℕ
+end_of p rests function base autos local = nearest local base
+    (nearer_end local (nearer local None base) (parameters_end p rests function base)) autos
+
+-- cc65 gives room to parameters and locals downwards, in the order in which they are declared. For a
+-- register variable it saves there what the register held, and no record has an offset of that: what
+-- is declared next has an end that is not known.
+abbrev pub size_of : Bool → ℕ → Option ℕ → Option ℕ
+size_of follows_register local end
+    = if follows_register then None else option_map (λ end. end - local) end
 
 -- Below the software stack pointer nothing is there yet, or any more.
-abbrev pub local_in : Program → List Depth → ℕ → List ℕ → ℕ → Function → ℕ → Option Local
-local_in p rests sp offsets offset function base =
-    let local = local_address base offset in
+abbrev pub local_in : Program → List Depth → ℕ → List Auto → Auto → Function → ℕ → Option Local
+local_in p rests sp autos auto function base =
+    let local = local_address base auto.offset in
     if nat_lt local sp then None else Some (record {
       address = local;
-      size = option_map (λ end. end - local) (end_of p rests function base offsets local);
+      size = size_of auto.follows_register local (end_of p rests function base autos local);
     })
 
--- Where the local at an offset is in a frame, by the offsets of all locals of its function.
-abbrev pub local_at : Program → List Depth → Frame → List ℕ → ℕ → Option Local
-local_at p rests frame offsets offset = option_and_then
-    (λ function. option_and_then (local_in p rests frame.sp offsets offset function) frame.base)
+-- Where a local is in a frame, by all locals of its function.
+abbrev pub local_at : Program → List Depth → Frame → List Auto → Auto → Option Local
+local_at p rests frame autos auto = option_and_then
+    (λ function. option_and_then (local_in p rests frame.sp autos auto function) frame.base)
     frame.function

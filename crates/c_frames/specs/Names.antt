@@ -1,5 +1,5 @@
 -- The names of routines. They stand in the code, in the table `ROUTINES`. Source: cc65 2.19,
--- `libsrc/runtime`.
+-- `libsrc`.
 use Rattle.std.specs.Prelude.{ℕ, bytes_eq, if◌then◌else◌, List, [], ◌∷◌, map, Option, Some, None}
 use Rattle.std.specs.Borrow.{Bor}
 use Rattle.c_frames.specs.declared.names.TheConstants.{ROUTINES}

@@ -1,5 +1,5 @@
--- What routines of cc65's runtime do to the software stack pointer. Source: cc65 2.19,
--- `libsrc/runtime`.
+-- What routines of cc65's runtime and library do to the software stack pointer. Source: cc65 2.19,
+-- `libsrc`.
 use Rattle.std.specs.Prelude.{ℕ, ◌+◌, ◌-◌, ◌%◌, ◌==◌, if◌then◌else◌, List, [], ◌∷◌, Option, Some, None}
 use Rattle.c_frames.specs.declared.rises.Rise.{Rise}
 use Rattle.c_frames.specs.declared.routines.Effect.{Effect}

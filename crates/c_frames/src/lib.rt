@@ -5,10 +5,10 @@
 //! reached, so it is found by following the code. `rests` says what is added from an instruction
 //! to the end of its routine, `depths` what was added since the first byte of its function: both
 //! are the least tables closed under the rules of `specs/Closures.antt`, over the ways of
-//! `specs/Ways.antt`. What the routines of cc65's runtime do is a table of names, `ROUTINES` in
-//! `names`, which is believed; `tools/check/c_runtime` calls each of them. `frames` goes from one
-//! state to its callers (`specs/Frames.antt`), `local_at` says where a parameter or a local is
-//! (`specs/Locals.antt`). Where something is not known, nothing is said.
+//! `specs/Ways.antt`. What the routines of cc65's runtime and some functions of its library do is a
+//! table of names, `ROUTINES` in `names`, which is believed; `tools/check/c_runtime` calls each of
+//! them. `frames` goes from one state to its callers (`specs/Frames.antt`), `local_at` says where a
+//! parameter or a local is (`specs/Locals.antt`). Where something is not known, nothing is said.
 //!
 //! The caller says which functions there are, where the routines are, and at which offsets the
 //! locals; nothing is read from a debug file here. Not followed are calls through a pointer, code
@@ -29,7 +29,7 @@ mod ways;
 
 pub use bytes::word_at;
 pub use closing::{depth_at, depths, rests};
-pub use locals::{Local, local_at};
+pub use locals::{Auto, Local, local_at};
 pub use names::effect_named;
 pub use programs::{Function, Program};
 pub use rises::{Depth, Rise};

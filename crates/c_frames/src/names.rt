@@ -5,11 +5,11 @@ ghost use Rattle.c_frames.specs.Names.{effect_named, find_named, row_view, routi
 
 use crate::routines::Effect;
 
-/// The routines of cc65's runtime that change the software stack pointer by themselves, and the
-/// functions of its library with `...`, which take off as many bytes as Y says. The effects of the
-/// first are those of `libsrc/runtime` of cc65 2.19. `leave` and its like are not here: what they
-/// add goes by what stands on the stack.
-pub const ROUTINES: [(&str, Effect); 174] = [
+/// The routines of cc65's runtime that change the software stack pointer by themselves, and of its
+/// library the functions with `...`, which take off as many bytes as Y says, and those whose code
+/// cannot be followed: each takes off its parameters but the last. The effects are those of cc65
+/// 2.19. `leave` and its like are not here: what they add goes by what stands on the stack.
+pub const ROUTINES: [(&str, Effect); 187] = [
     ("pusha", Effect::Pushes(1)),
     ("pushax", Effect::Pushes(2)),
     ("pusheax", Effect::Pushes(4)),
@@ -184,6 +184,19 @@ pub const ROUTINES: [(&str, Effect); 174] = [
     ("_sscanf", Effect::AddsY(0)),
     ("_cscanf", Effect::AddsY(0)),
     ("_open", Effect::AddsY(0)),
+    ("_mkdir", Effect::AddsY(0)),
+    ("_cbm_opendir", Effect::AddsY(0)),
+    ("__bzero", Effect::Adds(2)),
+    ("_bzero", Effect::Adds(2)),
+    ("_fopen", Effect::Adds(2)),
+    ("_idiv32by16r16", Effect::Adds(4)),
+    ("_udiv32by16r16", Effect::Adds(4)),
+    ("_itoa", Effect::Adds(4)),
+    ("_utoa", Effect::Adds(4)),
+    ("_ltoa", Effect::Adds(6)),
+    ("_ultoa", Effect::Adds(6)),
+    ("_fread", Effect::Adds(6)),
+    ("_fseek", Effect::Adds(6)),
 ];
 
 /// Returns the names of routines, each with what it does.

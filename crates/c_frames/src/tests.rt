@@ -1,7 +1,7 @@
 //! A call as cc65 makes it, and a function of which nothing is known.
 
 use crate::closing::{depths, rests};
-use crate::locals::local_at;
+use crate::locals::{Auto, local_at};
 use crate::names::effect_named;
 use crate::programs::{Function, Program};
 use crate::routines::Routine;
@@ -61,9 +61,20 @@ fn frames_of_a_call(rt: HostRuntime) -> Result<(), Fail> {
     assert_eq!(rt; found[0].base, Some(0x6FFE));
     assert_eq!(rt; found[1].address, 0x0200);
     assert_eq!(rt; found[1].base, Some(0x7000));
-    let local = local_at(&program, &rests, found[0], &[0], 0).ok_or("no local")?;
+    let auto = Auto {
+        offset: 0,
+        follows_register: false,
+    };
+    let local = local_at(&program, &rests, found[0], &[auto], auto).ok_or("no local")?;
     assert_eq!(rt; local.address, 0x6FFE);
     assert_eq!(rt; local.size, Some(2));
+    let auto = Auto {
+        offset: 0,
+        follows_register: true,
+    };
+    let local = local_at(&program, &rests, found[0], &[auto], auto).ok_or("no local")?;
+    assert_eq!(rt; local.address, 0x6FFE);
+    assert_eq!(rt; local.size, None);
     Ok(())
 }
 
