@@ -4,6 +4,7 @@ use Rattle.std.specs.Prelude.{ℕ, ◌+◌, ◌==◌, ◌&&◌, nat_le, nat_lt, 
 use Rattle.std.specs.List.{flat_map}
 use Rattle.std.specs.Option.{option_or}
 use Rattle.c_frames.specs.Names.{effect_named}
+use Rattle.c_frames.specs.declared.locals.Auto.{Auto}
 use Rattle.c_frames.specs.declared.programs.Function.{Function}
 use Rattle.c_frames.specs.declared.routines.Effect.{Effect}
 use Rattle.c_frames.specs.declared.routines.Routine.{Routine}
@@ -16,12 +17,19 @@ abbrev pub routine_by : ℕ → Option Effect → List Routine
 routine_by address None = []
 routine_by address (Some effect) = record { address = address; effect = effect } ∷ []
 
-abbrev pub routine_of : Named → List Routine
-routine_of name = routine_by name.address (effect_named name.text)
+abbrev pub begins_function : List FunctionView → ℕ → Bool
+begins_function [] address = false
+begins_function (function ∷ functions) address = if function.start == address then true
+    else begins_function functions address
+
+-- Where a function of C begins, the name is its own, whatever the library has by this name.
+abbrev pub routine_of : List FunctionView → Named → List Routine
+routine_of functions name = if begins_function functions name.address then []
+    else routine_by name.address (effect_named name.text)
 
 -- The routines that names have, in their order.
-abbrev pub routines_in : List Named → List Routine
-routines_in names = flat_map routine_of names
+abbrev pub routines_in : List FunctionView → List Named → List Routine
+routines_in functions names = flat_map (routine_of functions) names
 
 -- ---- functions of C
 
@@ -31,8 +39,11 @@ range_of function = record { start = function.start; size = function.size }
 abbrev pub functions_in : List FunctionView → List Function
 functions_in functions = map range_of functions
 
-abbrev pub offsets_of : List LocalView → List ℕ
-offsets_of locals = map (λ local. local.offset) locals
+abbrev pub auto_of : LocalView → Auto
+auto_of local = record { offset = local.offset; follows_register = local.follows_register }
+
+abbrev pub autos_of : List LocalView → List Auto
+autos_of locals = map auto_of locals
 
 abbrev pub has_byte : ℕ → FunctionView → Bool
 has_byte address function

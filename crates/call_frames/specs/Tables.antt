@@ -7,6 +7,7 @@ use Rattle.c_frames.specs.Frames.{frames_from, known, pushed_first}
 use Rattle.c_frames.specs.Locals.{local_at}
 use Rattle.c_frames.specs.Programs.{Program}
 use Rattle.c_frames.specs.Ways.{word_at}
+use Rattle.c_frames.specs.declared.locals.Auto.{Auto}
 use Rattle.c_frames.specs.declared.locals.Local.{Local}
 use Rattle.c_frames.specs.declared.rises.Depth.{Depth}
 use Rattle.c_frames.specs.declared.rises.Rise.{Rise}
@@ -15,7 +16,7 @@ use Rattle.c_frames.specs.declared.walk.Standing.{Standing}
 use Rattle.model.specs.declared.registers.Regs.{Regs}
 use Rattle.source_map.specs.Functions.{FunctionView}
 use Rattle.source_map.specs.Lines.{PlacesView}
-use Rattle.call_frames.specs.Found.{functions_in, offsets_of, pointer_in, routines_in}
+use Rattle.call_frames.specs.Found.{autos_of, functions_in, pointer_in, routines_in}
 use Rattle.call_frames.specs.declared.tables.Parameters.{Parameters}
 
 -- ---- the program
@@ -29,7 +30,7 @@ pub record TablesView : Type 0 where
 abbrev pub program_of : List ℕ → PlacesView → ℕ → Program
 program_of memory places pointer = record {
   memory = memory;
-  routines = routines_in places.names;
+  routines = routines_in places.functions places.names;
   functions = functions_in places.functions;
   pointer = pointer;
 }
@@ -66,12 +67,12 @@ frames_at t regs = frames_of t.program t.depths regs
 -- ---- locals
 
 -- Where each local of a function is in a frame.
-abbrev pub local_in : TablesView → Frame → List ℕ → ℕ → Option Local
-local_in t frame offsets offset = local_at t.program t.rests frame offsets offset
+abbrev pub local_in : TablesView → Frame → List Auto → Auto → Option Local
+local_in t frame autos auto = local_at t.program t.rests frame autos auto
 
 abbrev pub locals_at : TablesView → Frame → FunctionView → List (Option Local)
 locals_at t frame function
-    = let offsets = offsets_of function.locals in map (local_in t frame offsets) offsets
+    = let autos = autos_of function.locals in map (local_in t frame autos) autos
 
 -- ---- parameters
 

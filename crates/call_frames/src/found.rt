@@ -5,11 +5,12 @@ ghost use Rattle.std.specs.List.{flat_map};
 ghost use Rattle.std.specs.Option.{option_copied, option_map};
 ghost use Rattle.source_map.specs.Functions.{function_view, local_view};
 ghost use Rattle.source_map.specs.Names.{named};
-ghost use Rattle.call_frames.specs.Found.{address_if, addresses_named, are_all, common};
-ghost use Rattle.call_frames.specs.Found.{function_at, functions_in, has_byte, offsets_of};
-ghost use Rattle.call_frames.specs.Found.{pointer_in, routine_by, routine_of, routines_in};
+ghost use Rattle.call_frames.specs.Found.{address_if, addresses_named, are_all, auto_of, autos_of};
+ghost use Rattle.call_frames.specs.Found.{begins_function, common, function_at, functions_in};
+ghost use Rattle.call_frames.specs.Found.{has_byte, pointer_in, routine_by, routine_of};
+ghost use Rattle.call_frames.specs.Found.{routines_in};
 
-use c_frames::{Effect, Function, Routine, effect_named};
+use c_frames::{Auto, Effect, Function, Routine, effect_named};
 use source_map::{CFunction, CLocal, Name, Places};
 use std::alloc::{AllocError, Global};
 
@@ -31,22 +32,46 @@ fn push_routine(
     Ok(())
 }
 
-/// Appends the routine that has a name, if it is known what it does.
-fn push_named(routines: &mut Vec<Routine>, name: &Name) -> Result<(), AllocError>
-    ensures { OnOk result
-        (routines.new.items ≡ routines.old.items ++ routine_of (named name.now)) }
+/// Returns whether one of some functions begins at an address.
+fn begins_function(functions: &[CFunction], address: u16) -> bool
+    ensures { result ≡ begins_function (map function_view functions.now) address }
 {
+    for function in functions {
+        if function.start == address {
+            return true;
+        }
+    }
+    false
+}
+
+/// Appends the routine that has a name, if it is known what it does, and no function begins there.
+fn push_named(
+    routines: &mut Vec<Routine>,
+    functions: &[CFunction],
+    name: &Name,
+) -> Result<(), AllocError>
+    ensures { OnOk result (routines.new.items ≡ routines.old.items
+        ++ routine_of (map function_view functions.now) (named name.now)) }
+{
+    if begins_function(functions, name.address) {
+        return Ok(());
+    }
     push_routine(routines, name.address, effect_named(name.text.as_slice()))
 }
 
-/// Returns the routines of cc65's runtime that some names have.
-pub fn routines_in(alloc: Global, names: &[Name]) -> Result<Vec<Routine>, AllocError>
-    ensures { IfOk result
-        (λ routines. routines.items ≡ routines_in (map named names.now)) }
+/// Returns the routines of cc65's runtime and library that some names have, but for those at which
+/// one of some functions begins.
+pub fn routines_in(
+    alloc: Global,
+    functions: &[CFunction],
+    names: &[Name],
+) -> Result<Vec<Routine>, AllocError>
+    ensures { IfOk result (λ routines. routines.items
+        ≡ routines_in (map function_view functions.now) (map named names.now)) }
 {
     let mut routines = Vec::new(alloc);
     for name in names {
-        push_named(&mut routines, name)?;
+        push_named(&mut routines, functions, name)?;
     }
     Ok(routines)
 }
@@ -66,18 +91,27 @@ pub fn functions_in(alloc: Global, functions: &[CFunction]) -> Result<Vec<Functi
     Ok(found)
 }
 
-/// Returns the offsets of some locals.
+/// Returns a local as the rules for frames take it.
+pub fn auto_of(local: &CLocal) -> Auto
+    ensures { result ≡ auto_of (local_view local.now) }
+{
+    Auto {
+        offset: local.offset,
+        follows_register: local.follows_register,
+    }
+}
+
+/// Returns some locals as the rules for frames take them.
 ///
 /// Errors: `AllocError` if an allocation fails.
-pub fn offsets_of(alloc: Global, locals: &[CLocal]) -> Result<Vec<u16>, AllocError>
-    ensures { IfOk result
-        (λ offsets. offsets.items ≡ offsets_of (map local_view locals.now)) }
+pub fn autos_of(alloc: Global, locals: &[CLocal]) -> Result<Vec<Auto>, AllocError>
+    ensures { IfOk result (λ autos. autos.items ≡ autos_of (map local_view locals.now)) }
 {
-    let mut offsets = Vec::new(alloc);
+    let mut autos = Vec::new(alloc);
     for local in locals {
-        offsets.push(local.offset)?;
+        autos.push(auto_of(local))?;
     }
-    Ok(offsets)
+    Ok(autos)
 }
 
 /// Appends the address of a name that has a text.

@@ -14,8 +14,8 @@ mod memory;
 mod tables;
 mod values;
 
-pub use c_frames::{Frame, Local};
-pub use found::{function_at, offsets_of};
+pub use c_frames::{Auto, Frame, Local};
+pub use found::{auto_of, autos_of, function_at};
 pub use memory::memory_of;
 pub use tables::{Parameters, Tables, tables_at, tables_of};
 pub use values::{is_number, push_bytes, push_value};

@@ -6,11 +6,11 @@ ghost use Rattle.source_map.specs.Functions.{function_view};
 ghost use Rattle.call_frames.specs.Tables.{AreTablesIn, IsFollowed, frames_at, frames_of, locals_at};
 ghost use Rattle.call_frames.specs.Tables.{local_in, parameters_by, parameters_of, standing};
 
-use crate::found::{functions_in, offsets_of, pointer_in, routines_in};
+use crate::found::{autos_of, functions_in, pointer_in, routines_in};
 use crate::memory::memory_of;
 use c_frames::{
-    Depth, Frame, Function, Local, Program, Rise, Routine, Standing, depth_at, depths, frames,
-    known, local_at, pushed_first, rests, word_at,
+    Auto, Depth, Frame, Function, Local, Program, Rise, Routine, Standing, depth_at, depths,
+    frames, known, local_at, pushed_first, rests, word_at,
 };
 use debugger::{Regs, Session};
 use source_map::{CFunction, Places};
@@ -125,18 +125,12 @@ impl Tables {
         frames_of(alloc, &self.program(), self.depths.as_slice(), regs)
     }
 
-    /// Returns where the local at an offset is in a frame, by the offsets of all locals of its
-    /// function: nowhere if its address is below the software stack pointer, or is not known.
-    pub fn local_in(&self, frame: Frame, offsets: &[u16], offset: u16) -> Option<Local>
-        ensures { result ≡ local_in self.now frame offsets.now offset }
+    /// Returns where a local is in a frame, by all locals of its function: nowhere if its address
+    /// is below the software stack pointer, or is not known.
+    pub fn local_in(&self, frame: Frame, autos: &[Auto], auto: Auto) -> Option<Local>
+        ensures { result ≡ local_in self.now frame autos.now auto }
     {
-        local_at(
-            &self.program(),
-            self.rests.as_slice(),
-            frame,
-            offsets,
-            offset,
-        )
+        local_at(&self.program(), self.rests.as_slice(), frame, autos, auto)
     }
 
     /// Returns where each local of a function is in a frame, parameters too: nowhere if its address
@@ -152,11 +146,11 @@ impl Tables {
         ensures { IfOk result (λ locals. locals.items
             ≡ locals_at self.now frame (function_view function.now)) }
     {
-        let held = offsets_of(alloc, function.locals.as_slice())?;
-        let offsets = held.as_slice();
+        let held = autos_of(alloc, function.locals.as_slice())?;
+        let autos = held.as_slice();
         let mut locals = Vec::new(alloc);
-        for offset in offsets {
-            locals.push(self.local_in(frame, offsets, *offset))?;
+        for auto in autos {
+            locals.push(self.local_in(frame, autos, *auto))?;
         }
         Ok(locals)
     }
@@ -225,7 +219,7 @@ pub fn tables_of(
     let Some(pointer) = pointer_in(alloc, names)? else {
         return Ok(None);
     };
-    let routines = routines_in(alloc, names)?;
+    let routines = routines_in(alloc, functions, names)?;
     let functions = functions_in(alloc, functions)?;
     Ok(Some(followed(alloc, memory, routines, functions, pointer)?))
 }

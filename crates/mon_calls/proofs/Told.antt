@@ -3,10 +3,11 @@ use Rattle.std.proofs.Common.{◌≡◌, ◌∙◌, ℕ, List, [], ◌++◌, Opt
 use Rattle.std.specs.List.{flat_map}
 use Rattle.std.specs.Prelude.{⊤, OnOk}
 use Rattle.std.specs.declared.alloc.AllocError.{AllocError}
+use Rattle.c_frames.specs.declared.locals.Auto.{Auto}
 use Rattle.c_frames.specs.declared.walk.Frame.{Frame}
 use Rattle.call_frames.specs.Tables.{AreTablesIn, TablesView}
 use Rattle.model.specs.State.{State}
-use Rattle.call_frames.specs.Found.{offsets_of}
+use Rattle.call_frames.specs.Found.{autos_of}
 use Rattle.source_map.specs.Functions.{FunctionView, LocalView, local_view}
 use Rattle.source_map.specs.Lines.{PlacesView}
 use Rattle.source_map.specs.declared.functions.CLocal.{CLocal}
@@ -26,13 +27,13 @@ told_locals (Err e) s places number old new found tables said = tt
 
 -- ---- rows that were found
 
-pub rows_known : (t : TablesView) (memory : List ℕ) (frame : Frame) (function : FunctionView) (locals : List CLocal) (offsets start made : List ℕ)
-    → start ≡ [] → map local_view locals ≡ function.locals → offsets ≡ offsets_of (map local_view locals)
-    → made ≡ start ++ flat_map (local_text t memory frame offsets) (map local_view locals) → made ≡ rows_of t memory frame function
-rows_known t memory frame function locals offsets start made none known found is =
-    is ∙ (ap (λ s. s ++ flat_map (local_text t memory frame offsets) (map local_view locals)) none
-    ∙ (ap (λ (ls : List LocalView). flat_map (local_text t memory frame offsets) ls) known
-    ∙ ap (λ (os : List ℕ). flat_map (local_text t memory frame os) function.locals) (found ∙ ap (λ (ls : List LocalView). offsets_of ls) known)))
+pub rows_known : (t : TablesView) (memory : List ℕ) (frame : Frame) (function : FunctionView) (locals : List CLocal) (autos : List Auto) (start made : List ℕ)
+    → start ≡ [] → map local_view locals ≡ function.locals → autos ≡ autos_of (map local_view locals)
+    → made ≡ start ++ flat_map (local_text t memory frame autos) (map local_view locals) → made ≡ rows_of t memory frame function
+rows_known t memory frame function locals autos start made none known found is =
+    is ∙ (ap (λ s. s ++ flat_map (local_text t memory frame autos) (map local_view locals)) none
+    ∙ (ap (λ (ls : List LocalView). flat_map (local_text t memory frame autos) ls) known
+    ∙ ap (λ (os : List Auto). flat_map (local_text t memory frame os) function.locals) (found ∙ ap (λ (ls : List LocalView). autos_of ls) known)))
 
 pub from_nothing : (start made rest : List ℕ) → start ≡ [] → made ≡ start ++ rest → made ≡ rest
 from_nothing start made rest none is = is ∙ ap (λ s. s ++ rest) none

@@ -2,9 +2,10 @@
 -- Source: mos65.
 use Rattle.std.specs.Prelude.{◌≡◌, ℕ, ◌+◌, ◌-◌, ◌==◌, if◌then◌else◌, List, [], ◌∷◌, ◌++◌, codes, decimal, length, slice_get, Option, None, Some}
 use Rattle.std.specs.List.{flat_map}
+use Rattle.c_frames.specs.declared.locals.Auto.{Auto}
 use Rattle.c_frames.specs.declared.locals.Local.{Local}
 use Rattle.c_frames.specs.declared.walk.Frame.{Frame}
-use Rattle.call_frames.specs.Found.{function_at, offsets_of}
+use Rattle.call_frames.specs.Found.{auto_of, autos_of, function_at}
 use Rattle.call_frames.specs.Tables.{AreTablesIn, TablesView, frames_at, local_in}
 use Rattle.call_frames.specs.Values.{bytes_text, is_number, value_text}
 use Rattle.formatting.specs.Padding.{padded}
@@ -49,13 +50,13 @@ row_of memory name (Some local) = local_row memory name local
 
 -- ---- a call
 
-abbrev pub local_text : TablesView → List ℕ → Frame → List ℕ → LocalView → List ℕ
-local_text t memory frame offsets local
-    = row_of memory local.name (local_in t frame offsets local.offset)
+abbrev pub local_text : TablesView → List ℕ → Frame → List Auto → LocalView → List ℕ
+local_text t memory frame autos local
+    = row_of memory local.name (local_in t frame autos (auto_of local))
 
 abbrev pub rows_of : TablesView → List ℕ → Frame → FunctionView → List ℕ
 rows_of t memory frame function
-    = flat_map (local_text t memory frame (offsets_of function.locals)) function.locals
+    = flat_map (local_text t memory frame (autos_of function.locals)) function.locals
 
 abbrev pub body_text : TablesView → List ℕ → Frame → FunctionView → Option ℕ → List ℕ
 body_text t memory frame function None = NO_BASE.now

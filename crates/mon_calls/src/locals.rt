@@ -12,7 +12,8 @@ ghost use Rattle.mon_calls.specs.Locals.{sized_text, unknown_text, words_of};
 use crate::spots::push_spot_line;
 use crate::wording::{NO_BASE, NO_FUNCTIONS, NO_LOCALS, NO_POINTER, NO_SUCH_CALL, NOT_IN_C};
 use call_frames::{
-    Frame, Local, Tables, function_at, is_number, offsets_of, push_bytes, push_value, tables_at,
+    Auto, Frame, Local, Tables, auto_of, autos_of, function_at, is_number, push_bytes, push_value,
+    tables_at,
 };
 use debugger::Session;
 use formatting::{push_address, push_blanks, push_count, push_text};
@@ -103,21 +104,21 @@ fn push_row(
     }
 }
 
-/// Appends the rows of some locals in a frame, by the offsets of all locals of its function.
+/// Appends the rows of some locals in a frame, by all locals of its function.
 fn push_rows(
     text: &mut Vec<u8>,
     session: &Session,
     tables: &Tables,
     frame: Frame,
-    offsets: &[u16],
+    autos: &[Auto],
     locals: &[CLocal],
 ) -> Result<(), AllocError>
     ensures { OnOk result (text.new.items ≡ text.old.items
-        ++ flat_map (local_text tables.now session.now.current.bus.memory frame offsets.now)
+        ++ flat_map (local_text tables.now session.now.current.bus.memory frame autos.now)
         (map local_view locals.now)) }
 {
     for local in locals {
-        let place = tables.local_in(frame, offsets, local.offset);
+        let place = tables.local_in(frame, autos, auto_of(local));
         push_row(text, session, local.name.as_slice(), place)?;
     }
     Ok(())
@@ -147,16 +148,9 @@ fn push_known(
         (rows_of tables.now session.now.current.bus.memory frame (function_view function.now))) }
 {
     let locals = function.locals.as_slice();
-    let offsets = offsets_of(alloc, locals)?;
+    let autos = autos_of(alloc, locals)?;
     let mut rows = Vec::new(alloc);
-    push_rows(
-        &mut rows,
-        session,
-        tables,
-        frame,
-        offsets.as_slice(),
-        locals,
-    )?;
+    push_rows(&mut rows, session, tables, frame, autos.as_slice(), locals)?;
     push_if_any(text, rows.as_slice(), NO_LOCALS)
 }
 

@@ -1,6 +1,5 @@
 -- The functions of C that debug information tells of. Source: mos65.
 use Rattle.std.specs.Prelude.{ℕ, zero, suc, ◌+◌, ◌==◌, ◌&&◌, nat_le, Bool, true, false, if◌then◌else◌, List, [], ◌∷◌, ◌++◌, length, map, Option, Some, None, option_and_then}
-use Rattle.std.specs.List.{filter_map}
 use Rattle.std.specs.Option.{option_map, option_or, option_to_list}
 use Rattle.debug_records.specs.Info.{Info, record_at}
 use Rattle.debug_records.specs.Records.{CSymbol, Scope}
@@ -11,10 +10,12 @@ use Rattle.source_map.specs.declared.functions.CFunction.{CFunction}
 use Rattle.source_map.specs.declared.functions.CLocal.{CLocal}
 use Rattle.source_map.specs.declared.functions.Head.{Head as HeldHead}
 
--- A parameter or a local of a function: its name, and its offset in the frame, modulo 65,536.
+-- A parameter or a local of a function: its name, its offset in the frame, modulo 65,536, and
+-- whether the last one before it is a register variable.
 pub record LocalView : Type 0 where
   pub name : List ℕ
   pub offset : ℕ
+  pub follows_register : Bool
 
 -- A function: its name in C, its first byte, its size, and what it keeps on the software stack.
 pub record FunctionView : Type 0 where
@@ -24,7 +25,11 @@ pub record FunctionView : Type 0 where
   pub locals : List LocalView
 
 abbrev pub local_view : CLocal → LocalView
-local_view local = record { name = local.name.items; offset = local.offset }
+local_view local = record {
+  name = local.name.items;
+  offset = local.offset;
+  follows_register = local.follows_register;
+}
 
 abbrev pub function_view : CFunction → FunctionView
 function_view function = record {
@@ -59,20 +64,45 @@ c_text symbol (name ∷ names) = option_or (text_if symbol name) (c_text symbol 
 
 -- ---- parameters and locals
 
+-- Whether the last parameter or local is a register variable, behind one of a storage: what is static
+-- or external is neither.
+abbrev pub register_behind : Bool → Storage → Bool
+register_behind follows Auto = false
+register_behind follows Register = true
+register_behind follows Static = follows
+register_behind follows External = follows
+
+abbrev pub register_after : ℕ → Bool → Option CSymbol → Bool
+register_after scope follows None = follows
+register_after scope follows (Some name)
+    = if name.scope == scope then register_behind follows name.storage else follows
+
 abbrev pub is_auto : Storage → Bool
 is_auto Auto = true
 is_auto Register = false
 is_auto Static = false
 is_auto External = false
 
-abbrev pub local_if : ℕ → Option CSymbol → Option LocalView
-local_if scope None = None
-local_if scope (Some name) = if name.scope == scope && is_auto name.storage
-    then Some (record { name = name.name; offset = modulo name.offset 65536 }) else None
+abbrev pub local_of : Bool → CSymbol → LocalView
+local_of follows name = record {
+  name = name.name;
+  offset = modulo name.offset 65536;
+  follows_register = follows;
+}
 
--- Those of a scope, in the order of their numbers.
+abbrev pub local_if : ℕ → Bool → Option CSymbol → List LocalView
+local_if scope follows None = []
+local_if scope follows (Some name)
+    = if name.scope == scope && is_auto name.storage then local_of follows name ∷ [] else []
+
+-- Those of a scope, in the order of their numbers, which is that of their declarations.
+abbrev pub locals_from : ℕ → Bool → List (Option CSymbol) → List LocalView
+locals_from scope follows [] = []
+locals_from scope follows (name ∷ names) = local_if scope follows name
+    ++ locals_from scope (register_after scope follows name) names
+
 abbrev pub locals_in : ℕ → List (Option CSymbol) → List LocalView
-locals_in scope names = filter_map (local_if scope) names
+locals_in scope names = locals_from scope false names
 
 -- ---- functions
 

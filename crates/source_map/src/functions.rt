@@ -7,16 +7,20 @@ ghost use Rattle.debug_records.specs.Views.{c_symbol_view, info_view, scope_view
 ghost use Rattle.source_map.specs.Functions.{c_text, function_at, function_in, function_view};
 ghost use Rattle.source_map.specs.Functions.{functions_of, has_address, head_of, head_view};
 ghost use Rattle.source_map.specs.Functions.{is_auto, is_symbol, local_if, local_view, locals_in};
-ghost use Rattle.source_map.specs.Functions.{text_if, with_locals, word_of};
+ghost use Rattle.source_map.specs.Functions.{register_after, register_behind, text_if, with_locals};
+ghost use Rattle.source_map.specs.Functions.{word_of};
 
 use debug_records::{CSymbol, DebugInfo, Scope, Storage, record_at};
 use std::alloc::{AllocError, Global};
 
-/// A parameter or a local of a function of C: its name, and its offset in the frame, modulo 65,536.
+/// A parameter or a local of a function of C on the software stack.
 #[derive(Drop)]
 pub struct CLocal {
     pub name: Vec<u8>,
+    /// Where it stands in the frame, modulo 65,536.
     pub offset: u16,
+    /// Whether the parameter or local that was declared before it is a register variable.
+    pub follows_register: bool,
 }
 
 /// A function of C: its name in C, its first byte, its size, and its parameters and locals on the
@@ -95,15 +99,43 @@ fn is_auto(storage: Storage) -> bool
     }
 }
 
+/// Returns whether the last parameter or local is a register variable, behind one of a storage.
+fn register_behind(follows: bool, storage: Storage) -> bool
+    ensures { result ≡ register_behind follows storage }
+{
+    match storage {
+        Storage::Auto => false,
+        Storage::Register => true,
+        Storage::Static | Storage::External => follows,
+    }
+}
+
+/// Returns whether the last parameter or local of a scope is a register variable, behind a name.
+fn register_after(scope: usize, follows: bool, name: Option<CSymbol<'_>>) -> bool
+    ensures { result ≡ register_after scope follows (option_map c_symbol_view name.entry) }
+{
+    match name {
+        None => follows,
+        Some(name) => {
+            if name.scope as usize == scope {
+                register_behind(follows, name.storage)
+            } else {
+                follows
+            }
+        }
+    }
+}
+
 /// Appends a parameter or a local of a scope, if a name of C is one.
 fn push_local(
     alloc: Global,
     locals: &mut Vec<CLocal>,
     scope: usize,
+    follows: bool,
     name: Option<CSymbol<'_>>,
 ) -> Result<(), AllocError>
     ensures { OnOk result (map local_view locals.new.items ≡ map local_view locals.old.items
-        ++ option_to_list (local_if scope (option_map c_symbol_view name.entry))) }
+        ++ local_if scope follows (option_map c_symbol_view name.entry)) }
 {
     let Some(name) = name else {
         return Ok(());
@@ -113,6 +145,7 @@ fn push_local(
         locals.push(CLocal {
             name: text,
             offset: name.offset.rem_euclid(65536) as u16,
+            follows_register: follows,
         })?;
     }
     Ok(())
@@ -128,8 +161,10 @@ fn locals_in(
         ≡ locals_in scope (map (option_map c_symbol_view) names.now)) }
 {
     let mut locals = Vec::new(alloc);
+    let mut follows = false;
     for name in names {
-        push_local(alloc, &mut locals, scope, *name)?;
+        push_local(alloc, &mut locals, scope, follows, *name)?;
+        follows = register_after(scope, follows, *name);
     }
     Ok(locals)
 }

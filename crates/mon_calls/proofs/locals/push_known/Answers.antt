@@ -9,6 +9,6 @@ returns c =
     told_if_any c.push_if_any.result _ c.args.text.now.items c.push_if_any.new.text.items c.as_slice-2.result.now _
     (c.as_slice-2.ensures.value ∙ rows_known c.args.tables.now c.args.session.now.current.bus.memory c.args.frame (function_view c.args.function.now)
     c.as_slice-locals.result.now c.as_slice.result.now c.new-rows.result.items c.push_rows.new.text.items c.new-rows.ensures.items
-    (ap (λ (ls : List CLocal). map local_view ls) c.as_slice-locals.ensures.value) (c.as_slice.ensures.value ∙ c.in_ok-offsets.ensures)
+    (ap (λ (ls : List CLocal). map local_view ls) c.as_slice-locals.ensures.value) (c.as_slice.ensures.value ∙ c.in_ok-autos.ensures)
     c.in_ok-push_rows.ensures)
     c.push_if_any.ensures

@@ -6,5 +6,5 @@ use Rattle.mon_calls.proofs.locals.push_rows.Given as goal
 
 abbrev pub invariant-loop-local : goal.invariant-loop-local
 invariant-loop-local l =
-    l.text.items ++ flat_map (local_text l.tables l.session.current.bus.memory l.frame l.offsets) (map local_view (drop l.local-index l.locals))
-    ≡ l.initial.text.items ++ flat_map (local_text l.tables l.session.current.bus.memory l.frame l.offsets) (map local_view l.locals)
+    l.text.items ++ flat_map (local_text l.tables l.session.current.bus.memory l.frame l.autos) (map local_view (drop l.local-index l.locals))
+    ≡ l.initial.text.items ++ flat_map (local_text l.tables l.session.current.bus.memory l.frame l.autos) (map local_view l.locals)

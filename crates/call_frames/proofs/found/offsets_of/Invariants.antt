@@ -1,7 +1,0 @@
-use Rattle.std.proofs.Common.{◌≡◌, ◌++◌, drop, map}
-use Rattle.call_frames.specs.Found.{offsets_of}
-use Rattle.source_map.specs.Functions.{local_view}
-use Rattle.call_frames.proofs.found.offsets_of.Given as goal
-
-abbrev pub invariant-loop-local : goal.invariant-loop-local
-invariant-loop-local l = l.offsets.items ++ offsets_of (map local_view (drop l.local-index l.locals)) ≡ offsets_of (map local_view l.locals)
