@@ -4,6 +4,7 @@
 use Rattle.std.specs.Prelude.{ℕ, zero, suc, ◌+◌, ◌==◌, nat_le, ◌≡◌, Bool, true, false, if◌then◌else◌, List, [], ◌∷◌, ◌++◌, drop, length, map, slice_get, string_bytes, Option, Some, None}
 use Rattle.std.specs.List.{flat_map, list_any}
 use Rattle.std.specs.Str.Lossy.{utf8_lossy}
+use Rattle.arguments.specs.Shown.{shown_bytes}
 use Rattle.c_frames.specs.declared.walk.Frame.{Frame as CFrame}
 use Rattle.call_frames.specs.Found.{function_at}
 use Rattle.dap_messages.specs.Counting.{first_column, shown_line}
@@ -80,7 +81,7 @@ FramesAreThoseOfWhere = (s : State) (places : PlacesView) (frames : List CFrame)
 -- The name of the function of C that has an address, or else the address, and the name that stands
 -- there or nearest below it.
 abbrev pub words_in : List Named → ℕ → Option FunctionView → List ℕ
-words_in names address (Some function) = function.name
+words_in names address (Some function) = shown_bytes function.name
 words_in names address None = place_text names address
 
 abbrev pub where_words : PlacesView → ℕ → List ℕ

@@ -5,6 +5,7 @@ use Rattle.std.specs.Prelude.{ℕ, ◌+◌, ◌==◌, ◌≡◌, nat_le, Bool, i
 use Rattle.std.specs.List.{flat_map}
 use Rattle.std.specs.Str.{bytes_eq}
 use Rattle.std.specs.Str.Lossy.{utf8_lossy}
+use Rattle.arguments.specs.Shown.{shown_bytes}
 use Rattle.c_frames.specs.declared.locals.Local.{Local}
 use Rattle.c_frames.specs.declared.walk.Frame.{Frame}
 use Rattle.call_frames.specs.Found.{function_at}
@@ -85,7 +86,7 @@ local_named name locals = option_map (λ local. local.1) (find (has_name name) l
 
 abbrev pub local_item : List ℕ → SeenLocal → SeenItem
 local_item memory local
-    = local_at (utf8_lossy local.0) local.1.address (utf8_lossy (value_text memory local.1))
+    = local_at (shown_bytes local.0) local.1.address (utf8_lossy (value_text memory local.1))
 
 -- Those that are asked for.
 abbrev pub ShowsLocals : State → PlacesView → ℕ → Page → SeenAnswer → Type 0

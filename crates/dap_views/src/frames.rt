@@ -11,6 +11,7 @@ use crate::paged::Paged;
 use crate::source::{FilePath, Source, file_at};
 use crate::stack::{Frame, stack_frames};
 use crate::texts::as_text;
+use arguments::push_shown;
 use call_frames::function_at;
 use dap_messages::{
     Answer, Counting, Item, Page, SourcePlace, frame_at_line, frame_without_line, frames_body,
@@ -80,7 +81,7 @@ fn push_where(text: &mut Vec<u8>, places: &Places, address: u16) -> Result<(), A
         (text.new.items ≡ text.old.items ++ where_words places.now address) }
 {
     match function_at(places, address) {
-        Some(function) => text.extend_from_slice(function.name.as_slice()),
+        Some(function) => push_shown(text, function.name.as_slice()),
         None => push_place(text, places, address),
     }
 }

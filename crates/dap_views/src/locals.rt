@@ -20,6 +20,7 @@ ghost use Rattle.dap_views.specs.Pages.{page_of};
 use crate::paged::Paged;
 use crate::texts::as_text;
 use crate::watches::data_of;
+use arguments::shown_name;
 use call_frames::{Frame, Local, Tables, function_at, push_value, tables_at};
 use dap_messages::{
     Answer, ByteRange, Item, Page, Scope, local_at, look_body, range_of, variables_body,
@@ -243,9 +244,9 @@ fn local_item(alloc: Global, session: &Session, local: FrameLocal<'_>) -> Result
     ensures { IfOk result (λ v. item_view v
         ≡ local_item session.now.current.bus.memory (seen_local local.entry)) }
 {
-    let name = String::from_utf8_lossy(alloc, local.name);
+    let name = String::from_utf8_lossy(alloc, local.name)?;
     local_at(
-        name,
+        shown_name(alloc, &name),
         local.local.address,
         value_of(alloc, session, local.local),
     )

@@ -2,6 +2,7 @@
 -- Source: mos65.
 use Rattle.std.specs.Prelude.{◌≡◌, ℕ, ◌+◌, ◌-◌, ◌==◌, if◌then◌else◌, List, [], ◌∷◌, ◌++◌, codes, decimal, length, slice_get, Option, None, Some}
 use Rattle.std.specs.List.{flat_map}
+use Rattle.arguments.specs.Shown.{shown_bytes}
 use Rattle.c_frames.specs.declared.locals.Auto.{Auto}
 use Rattle.c_frames.specs.declared.locals.Local.{Local}
 use Rattle.c_frames.specs.declared.walk.Frame.{Frame}
@@ -41,7 +42,7 @@ held_text memory local = held_by memory local local.size
 
 -- Its name, its address, and what it holds.
 unfoldable pub local_row : List ℕ → List ℕ → Local → List ℕ
-local_row memory name local = padded 14 (codes "  " ++ name) ++ codes "  "
+local_row memory name local = padded 14 (codes "  " ++ shown_bytes name) ++ codes "  "
     ++ hex_address local.address ++ codes " " ++ held_text memory local ++ codes "\n"
 
 abbrev pub row_of : List ℕ → List ℕ → Option Local → List ℕ

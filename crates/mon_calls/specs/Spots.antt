@@ -1,5 +1,6 @@
 -- Places with functions of C and lines. Source: mos65.
 use Rattle.std.specs.Prelude.{ℕ, Bool, is_some, if◌then◌else◌, List, [], ◌++◌, codes, Option, None, Some}
+use Rattle.arguments.specs.Shown.{shown_bytes}
 use Rattle.call_frames.specs.Found.{function_at}
 use Rattle.model.specs.State.{State}
 use Rattle.model.specs.Text.{hex_address}
@@ -11,7 +12,8 @@ use Rattle.source_map.specs.Names.{Named}
 
 abbrev pub named_by : List Named → ℕ → Option FunctionView → List ℕ
 named_by names address None = place_text names address
-named_by names address (Some function) = hex_address address ++ codes " " ++ function.name
+named_by names address (Some function)
+    = hex_address address ++ codes " " ++ shown_bytes function.name
 
 -- An address with the function of C there, otherwise with the name that stands there or nearest
 -- below it.

@@ -11,6 +11,7 @@ ghost use Rattle.mon_calls.specs.Locals.{sized_text, unknown_text, words_of};
 
 use crate::spots::push_spot_line;
 use crate::wording::{NO_BASE, NO_FUNCTIONS, NO_LOCALS, NO_POINTER, NO_SUCH_CALL, NOT_IN_C};
+use arguments::push_shown;
 use call_frames::{
     Auto, Frame, Local, Tables, auto_of, autos_of, function_at, is_number, push_bytes, push_value,
     tables_at,
@@ -79,7 +80,7 @@ fn push_local(
 {
     let from = text.len();
     push_text(text, "  ")?;
-    text.extend_from_slice(name)?;
+    push_shown(text, name)?;
     push_blanks(text, from, 14)?;
     push_text(text, "  ")?;
     push_address(text, local.address)?;

@@ -4,6 +4,7 @@ ghost use Rattle.std.specs.Prelude.{◌≡◌, ◌++◌, OnOk};
 ghost use Rattle.mon_calls.specs.Spots.{code_text, from_line, is_in_function, line_text, name_text};
 ghost use Rattle.mon_calls.specs.Spots.{spot_line, spot_text};
 
+use arguments::push_shown;
 use call_frames::function_at;
 use debugger::Session;
 use formatting::{push_address, push_text};
@@ -20,7 +21,7 @@ fn push_name(text: &mut Vec<u8>, places: &Places, address: u16) -> Result<(), Al
         Some(function) => {
             push_address(text, address)?;
             push_text(text, " ")?;
-            text.extend_from_slice(function.name.as_slice())
+            push_shown(text, function.name.as_slice())
         }
         None => push_place(text, places, address),
     }
