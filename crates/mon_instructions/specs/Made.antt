@@ -5,6 +5,7 @@ use Rattle.std.specs.Char.{is_ascii_whitespace}
 use Rattle.std.specs.List.{flat_map, prefix_len, suffix_len}
 use Rattle.std.specs.Option.{option_map}
 use Rattle.std.specs.Str.{bytes_eq}
+use Rattle.arguments.specs.Shown.{shown_bytes}
 use Rattle.formatting.specs.Padding.{padded}
 use Rattle.model.specs.State.{State}
 use Rattle.source_map.specs.Lines.{PlacesView, SourceView, row_at, text_of, texts_at}
@@ -24,11 +25,12 @@ unfoldable pub trimmed : List ℕ → List ℕ
 trimmed text = without_end_blanks (without_front_blanks text)
 
 -- A tab is one blank.
-abbrev pub shown_byte : ℕ → List ℕ
-shown_byte byte = (if byte == 9 then 32 else byte) ∷ []
+abbrev pub blanked_byte : ℕ → List ℕ
+blanked_byte byte = (if byte == 9 then 32 else byte) ∷ []
 
+-- A line is shown as names of files are: a source that debug information names may have any bytes.
 abbrev pub line_text : List ℕ → List ℕ
-line_text line = flat_map shown_byte (trimmed line)
+line_text line = shown_bytes (flat_map blanked_byte (trimmed line))
 
 -- ---- a line that memory has as it is written
 

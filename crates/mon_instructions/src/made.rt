@@ -3,10 +3,11 @@
 ghost use Rattle.std.specs.Prelude.{◌≡◌, ◌++◌, OnOk};
 ghost use Rattle.std.specs.List.{flat_map};
 ghost use Rattle.mon_instructions.specs.Made.{has_bytes_of, if_written, is_written, line_text, line_view};
-ghost use Rattle.mon_instructions.specs.Made.{made_row, row_or_source, shown_byte, source_row, trimmed};
+ghost use Rattle.mon_instructions.specs.Made.{blanked_byte, made_row, row_or_source, source_row, trimmed};
 ghost use Rattle.mon_instructions.specs.Made.{with_text};
 
 use crate::instructions::{bytes_at, push_instruction_front, push_open_row};
+use arguments::push_shown;
 use debugger::Session;
 use formatting::{push_blanks, push_count, push_text};
 use source_map::{Places, Row};
@@ -65,8 +66,8 @@ fn trimmed(text: &[u8]) -> &[u8]
 }
 
 /// Appends a byte of a line, a blank in place of a tab.
-fn push_shown(text: &mut Vec<u8>, byte: u8) -> Result<(), AllocError>
-    ensures { OnOk result (text.new.items ≡ text.old.items ++ shown_byte byte) }
+fn push_blanked(text: &mut Vec<u8>, byte: u8) -> Result<(), AllocError>
+    ensures { OnOk result (text.new.items ≡ text.old.items ++ blanked_byte byte) }
 {
     text.push(if byte == b'\t' { b' ' } else { byte })?;
     Ok(())
@@ -74,21 +75,24 @@ fn push_shown(text: &mut Vec<u8>, byte: u8) -> Result<(), AllocError>
 
 /// Appends the bytes of a line.
 fn push_line_bytes(text: &mut Vec<u8>, line: &[u8]) -> Result<(), AllocError>
-    ensures { OnOk result (text.new.items ≡ text.old.items ++ flat_map shown_byte line.now) }
+    ensures { OnOk result (text.new.items ≡ text.old.items ++ flat_map blanked_byte line.now) }
 {
     for byte in line {
-        push_shown(text, *byte)?;
+        push_blanked(text, *byte)?;
     }
     Ok(())
 }
 
-/// Appends the text of a line without the blanks at its ends, and a blank in place of each tab.
+/// Appends the text of a line without the blanks at its ends, and a blank in place of each tab. It
+/// is shown as `arguments::push_shown` shows names, since a source may have any bytes.
 ///
 /// Errors: `AllocError` if an allocation fails.
 pub fn push_line_text(text: &mut Vec<u8>, line: &[u8]) -> Result<(), AllocError>
     ensures { OnOk result (text.new.items ≡ text.old.items ++ line_text line.now) }
 {
-    push_line_bytes(text, trimmed(line))
+    let mut bytes = Vec::new(*text.allocator());
+    push_line_bytes(&mut bytes, trimmed(line))?;
+    push_shown(text, bytes.as_slice())
 }
 
 /// Appends the row of a line that is an instruction: address, bytes, and the line's number and

@@ -5,6 +5,7 @@ use Rattle.std.proofs.Common.{◌≡◌, ◌∙◌, ℕ, ◌+◌, ◌<◌, ◌�
 use Rattle.std.specs.Prelude.{◌==◌, ◌&&◌, ◌||◌, decimal, find, nat_le, nat_lt, if◌then◌else◌}
 use Rattle.std.specs.Option.{option_map}
 use Rattle.std.proofs.lemmas.Bool.{and_left, le-ltb, ne_eqb}
+use Rattle.arguments.specs.Shown.{shown_bytes}
 use Rattle.assembler.specs.Assembly.{AssemblyView, source_lines}
 use Rattle.assembler.specs.Lines.{LineView, lines_with}
 use Rattle.debug_records.specs.declared.record.LineKind.TheVariants.{Assembler}
@@ -117,7 +118,7 @@ address_of_line file assembly line =
 -- A line of a file in a text, if there is one: `, hunt.a65:8`.
 abbrev pub words_of : List ℕ → Option ℕ → List ℕ
 words_of file None = []
-words_of file (Some line) = codes ", " ++ (file ++ (codes ":" ++ decimal line))
+words_of file (Some line) = codes ", " ++ (shown_bytes file ++ (codes ":" ++ decimal line))
 
 abbrev one_file : List ℕ → List (List ℕ) → Option Row → Type 0
 one_file file texts row = line_words (record { name = file; texts = texts } ∷ []) row ≡ words_of file (option_map (λ r. r.line) row)

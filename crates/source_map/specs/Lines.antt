@@ -4,6 +4,7 @@ use Rattle.std.specs.Prelude.{ℕ, zero, suc, ◌+◌, ◌-◌, ◌%◌, ◌==�
 use Rattle.std.specs.List.{flat_map, insert, list_any, prefix_len}
 use Rattle.std.specs.Option.{option_map}
 use Rattle.std.specs.Global.{Vec}
+use Rattle.arguments.specs.Shown.{shown_bytes}
 use Rattle.model.specs.Image.{cell_at}
 use Rattle.assembler.specs.Assembly.{AssemblyView, source_lines}
 use Rattle.assembler.specs.Lines.{LineView}
@@ -138,9 +139,10 @@ row_at lines address = find (λ row. row.address == address) lines
 abbrev pub line_at : List Row → ℕ → Option ℕ
 line_at lines address = option_map (λ row. row.line) (row_at lines address)
 
--- A line with its file: `hunt.a65:8`.
+-- A line with its file, as it is shown: `hunt.a65:8`.
 abbrev pub site_words : List SourceView → Row → List ℕ
-site_words sources row = file_name sources row.file ++ (codes ":" ++ decimal row.line)
+site_words sources row
+    = shown_bytes (file_name sources row.file) ++ (codes ":" ++ decimal row.line)
 
 -- The same in a text, if there is one: `, hunt.a65:8`.
 abbrev pub line_words : List SourceView → Option Row → List ℕ

@@ -3,6 +3,7 @@
 ghost use Rattle.std.specs.Prelude.{◌≡◌, ◌∷◌, ◌++◌, [], ℕ, IfOk, None, OnErr, OnOk, codes, decimal};
 ghost use Rattle.std.specs.Prelude.{length, map, nat_lt, take};
 ghost use Rattle.std.specs.Option.{option_copied};
+ghost use Rattle.arguments.specs.Shown.{shown_bytes};
 ghost use Rattle.debug_records.specs.Views.{info_view};
 ghost use Rattle.source_map.specs.Debugged.{debug_places};
 ghost use Rattle.source_map.specs.Lines.{address_from, data_left, file_name, is_before, is_data_at};
@@ -20,6 +21,7 @@ use crate::names::Names;
 use crate::rows::{Row, Site, rows_of, sites_of};
 use crate::source_files::{SourceFile, file_name, text_of};
 use crate::texts::texts_of;
+use arguments::push_shown;
 use assembler::Assembly;
 use debug_records::DebugInfo;
 use formatting::{push_count, push_text};
@@ -103,12 +105,12 @@ fn site_from(sites: &[Site], file: u32, line: u32) -> Option<Site>
     best
 }
 
-/// Appends the name of a file and the number of a line: `FILE:LINE`.
+/// Appends the name of a file, as it is shown, and the number of a line: `FILE:LINE`.
 fn push_numbered(text: &mut Vec<u8>, file: &[u8], line: u32) -> Result<(), AllocError>
-    ensures { OnOk result
-        (text.new.items ≡ text.old.items ++ (file.now ++ (codes ":" ++ decimal line))) }
+    ensures { OnOk result (text.new.items
+        ≡ text.old.items ++ (shown_bytes file.now ++ (codes ":" ++ decimal line))) }
 {
-    text.extend_from_slice(file)?;
+    push_shown(text, file)?;
     push_text(text, ":")?;
     push_count(text, line as u64)
 }
@@ -342,7 +344,8 @@ impl Places {
         self.functions.as_slice()
     }
 
-    /// Appends the line of a row with its file: `FILE:LINE`.
+    /// Appends the line of a row with its file: `FILE:LINE`. What would control a terminal in the
+    /// file's name is shown as `?`.
     ///
     /// Errors: `AllocError` if an allocation fails.
     pub fn push_site(&self, text: &mut Vec<u8>, row: Row) -> Result<(), AllocError>

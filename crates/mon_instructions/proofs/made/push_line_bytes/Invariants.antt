@@ -1,7 +1,7 @@
 use Rattle.std.proofs.Common.{◌≡◌, ◌++◌, drop}
 use Rattle.std.specs.List.{flat_map}
-use Rattle.mon_instructions.specs.Made.{shown_byte}
+use Rattle.mon_instructions.specs.Made.{blanked_byte}
 use Rattle.mon_instructions.proofs.made.push_line_bytes.Given as goal
 
 abbrev pub invariant-loop-byte : goal.invariant-loop-byte
-invariant-loop-byte l = l.text.items ++ flat_map shown_byte (drop l.byte-index l.line) ≡ l.initial.text.items ++ flat_map shown_byte l.line
+invariant-loop-byte l = l.text.items ++ flat_map blanked_byte (drop l.byte-index l.line) ≡ l.initial.text.items ++ flat_map blanked_byte l.line
