@@ -2,6 +2,7 @@
 -- that they are not found. No clause can say which these are. Source: mos65.
 use Rattle.std.specs.Prelude.{◌≡◌, ℕ, ◌+◌, ◌^◌, ◌-◌, ◌==◌, ◌&&◌, ◌||◌, min, not, nat_lt, Bool, true, false, if◌then◌else◌, List, length, ◌++◌, codes, decimal, Option, Some, None}
 use Rattle.arguments.specs.FaultLines.{line_of}
+use Rattle.arguments.specs.Shown.{shown_bytes}
 use Rattle.debug_files.specs.Paths.{begins_at_root}
 use Rattle.debug_files.specs.declared.changed.SourceState.{SourceState}
 use Rattle.debug_files.specs.declared.changed.SourceState.TheVariants.{Changed, Missing, Same}
@@ -22,7 +23,7 @@ state_of (Some count) size = if has_size count size then Same else Changed
 -- ---- all of them
 
 -- The names of those that have changed; how many there are, and how many cannot be read; the name of
--- the first of these; and whether one that has a relative name can be read: then relative names begin
+-- the first of these, each as it is shown; and whether one that has a relative name can be read: then relative names begin
 -- where they should.
 pub record Sought : Type 0 where
   pub changed : List ℕ
@@ -44,10 +45,11 @@ abbrev pub one_more : ℕ → ℕ
 one_more count = min (count + 1) (2 ^ 32 - 1)
 
 abbrev pub with_name : List ℕ → List ℕ → List ℕ
-with_name names name = if length names == 0 then name else names ++ (codes ", " ++ name)
+with_name names name = if length names == 0 then shown_bytes name
+    else names ++ (codes ", " ++ shown_bytes name)
 
 abbrev pub first_of : List ℕ → List ℕ → List ℕ
-first_of first name = if length first == 0 then name else first
+first_of first name = if length first == 0 then shown_bytes name else first
 
 abbrev pub found_by : List ℕ → Sought → Sought
 found_by name sought = record sought {

@@ -9,7 +9,7 @@ ghost use Rattle.debug_files.specs.Changed.{sought_view, state_of, with_name, wi
 ghost use Rattle.model.specs.Writers.{AppendsFront};
 
 use crate::paths::begins_at_root;
-use arguments::put_named;
+use arguments::{push_shown, put_named};
 use formatting::{Text, push_decimal};
 use std::alloc::{AllocError, Global};
 use std::io::Write;
@@ -69,34 +69,34 @@ pub fn state_of(count: Option<usize>, size: Option<u32>) -> SourceState
 /// How the sources were found that a debug file names.
 #[derive(Drop)]
 pub struct Sought {
-    /// The names of those that have changed, with commas between them.
+    /// The names of those that have changed, as they are shown, with commas between them.
     pub changed: Vec<u8>,
     /// How many there are.
     pub count: u32,
     /// How many of them cannot be read.
     pub missing: u32,
-    /// The name of the first of these.
+    /// The name of the first of these, as it is shown.
     pub first: Vec<u8>,
     /// Whether one can be read that has a relative name.
     pub is_found: bool,
 }
 
-/// Appends the name of a source that has changed, behind others.
+/// Appends the name of a source that has changed, as it is shown, behind others.
 fn note_changed(changed: &mut Vec<u8>, name: &[u8]) -> Result<(), AllocError>
     ensures { OnOk result (changed.new.items ≡ with_name changed.old.items name.now) }
 {
     if !changed.is_empty() {
         changed.extend_from_slice(b", ")?;
     }
-    changed.extend_from_slice(name)
+    push_shown(changed, name)
 }
 
-/// Keeps the name of the first source that cannot be read.
+/// Keeps the name of the first source that cannot be read, as it is shown.
 fn note_first(first: &mut Vec<u8>, name: &[u8]) -> Result<(), AllocError>
     ensures { OnOk result (first.new.items ≡ first_of first.old.items name.now) }
 {
     if first.is_empty() {
-        first.extend_from_slice(name)?;
+        push_shown(first, name)?;
     }
     Ok(())
 }

@@ -1,13 +1,14 @@
 -- The lines that are shown for the bytes of a program: of its source, or by places. Source: mos65.
 use Rattle.std.specs.Prelude.{ℕ, ◌==◌, ◌&&◌, min, nat_le, nat_lt, not, Bool, false, if◌then◌else◌, List, [], ◌∷◌, Option, None, Some, unwrap_or}
 use Rattle.std.specs.List.{flat_map}
+use Rattle.arguments.specs.Shown.{shown_bytes}
 use Rattle.assembler.specs.Assembly.{AssemblyView, source_lines}
 use Rattle.assembler.specs.Lines.{LineView}
 use Rattle.source_map.specs.Lines.{PlacesView, SourceView, file_name, text_of, texts_at}
 use Rattle.source_map.specs.declared.rows.Row.{Row}
 use Rattle.trace_rows.specs.declared.lines.SourceLine.{SourceLine}
 
--- A line as it is kept: with the name of its file, if that is shown.
+-- A line as it is kept: with the name of its file as it is shown, if it is.
 pub record Listed : Type 0 where
   pub file : List ℕ
   pub number : ℕ
@@ -60,7 +61,7 @@ continues (Some before) row
 -- The line that is shown for bytes, with three of them at most, and the text that its file has there.
 abbrev pub line_by : List SourceView → Option Row → Row → Listed
 line_by sources before row = record {
-  file = file_name sources row.file;
+  file = shown_bytes (file_name sources row.file);
   number = row.line;
   address = row.address;
   count = min row.count 3;

@@ -2,12 +2,14 @@
 
 ghost use Rattle.std.specs.Prelude.{◌≡◌, ◌++◌, [], IfOk, OnOk, map, slice_get};
 ghost use Rattle.std.specs.Option.{option_to_list, unwrap_or};
+ghost use Rattle.arguments.specs.Shown.{shown_bytes};
 ghost use Rattle.source_map.specs.Lines.{text_of, texts_at};
 ghost use Rattle.assembler.specs.Assembly.{source_lines};
 ghost use Rattle.assembler.specs.Lines.{line_view};
 ghost use Rattle.trace_rows.specs.SourceLines.{continues, line_by, line_of, lines_by, lines_in};
 ghost use Rattle.trace_rows.specs.SourceLines.{lines_of, listed};
 
+use arguments::push_shown;
 use assembler::Assembly;
 use source_map::{Places, Row};
 use std::alloc::{AllocError, Global};
@@ -15,7 +17,7 @@ use std::alloc::{AllocError, Global};
 /// A line of a source that is shown for bytes.
 #[derive(Drop)]
 pub struct SourceLine {
-    /// The name of its file, where that is shown: not in a source of one file.
+    /// The name of its file as it is shown, where it is: not in a source of one file.
     pub file: Vec<u8>,
     /// Its number, counted from 1.
     pub number: u32,
@@ -106,6 +108,15 @@ fn continues(before: Option<Row>, row: Row) -> bool
     }
 }
 
+/// Returns the name of a file as it is shown.
+fn shown_file(alloc: Global, name: &[u8]) -> Result<Vec<u8>, AllocError>
+    ensures { IfOk result (λ shown. shown.items ≡ shown_bytes name.now) }
+{
+    let mut shown = Vec::new(alloc);
+    push_shown(&mut shown, name)?;
+    Ok(shown)
+}
+
 /// Returns the line that is shown for the bytes of a row, behind another row.
 fn line_of_row(
     alloc: Global,
@@ -116,7 +127,7 @@ fn line_of_row(
     ensures { IfOk result (λ line. listed line ≡ line_by places.now.sources before row) }
 {
     Ok(SourceLine {
-        file: Vec::from_slice(alloc, places.file_name(row.file))?,
+        file: shown_file(alloc, places.file_name(row.file))?,
         number: row.line,
         address: row.address,
         len: row.count.min(3) as u16,
