@@ -2,7 +2,6 @@
 -- Source: mos65.
 use Rattle.std.specs.Prelude.{◌≡◌, ◌⊎◌, ℕ, ◌==◌, List, [], ◌++◌, codes, decimal, if◌then◌else◌, is_some, Option, Some, None}
 use Rattle.arguments.specs.FaultLines.{line_of}
-use Rattle.arguments.specs.Shown.{shown_bytes}
 use Rattle.console.specs.declared.ending.Ending.{Ending}
 use Rattle.console.specs.declared.ending.Ending.TheVariants.{Limit, Unwritten, NoReset, NoVector, Refused}
 use Rattle.model.specs.FaultTexts.{event_fault_text}
@@ -49,13 +48,9 @@ name_words None = []
 name_words (Some (name, distance)) = codes " " ++ (name ++ distance_text distance)
 
 -- What is known of an address, as ` next+4, first.a65:6`.
-abbrev pub place_words : PlacesView → ℕ → List ℕ
-place_words places address = name_words (name_near places.names address)
-    ++ line_words places.sources (row_at places.lines address)
-
--- The same as it is shown: a file may have any name.
 abbrev pub site_text : PlacesView → ℕ → List ℕ
-site_text places address = shown_bytes (place_words places address)
+site_text places address = name_words (name_near places.names address)
+    ++ line_words places.sources (row_at places.lines address)
 
 -- What is said of an address: nothing where nothing is known, nor where memory runs out.
 abbrev pub IsSite : Option PlacesView → ℕ → List ℕ → Type 0

@@ -2,11 +2,10 @@
 
 ghost use Rattle.std.specs.Prelude.{◌≡◌, ◌++◌, IfOk, None, OnOk, option_map};
 ghost use Rattle.word_run.specs.Known.{known_by, known_view};
-ghost use Rattle.word_run.specs.Told.{IsSite, distance_text, name_words, place_words, site_text};
+ghost use Rattle.word_run.specs.Told.{IsSite, distance_text, name_words, site_text};
 ghost use Rattle.source_map.specs.Names.{near_view};
 
 use crate::known::Known;
-use arguments::push_shown;
 use assembler::Assembly;
 use formatting::{push_count, push_text};
 use source_map::Places;
@@ -39,24 +38,12 @@ fn push_name(text: &mut Vec<u8>, near: Option<(&[u8], u16)>) -> Result<(), Alloc
 /// Returns what places say of an address: the nearest name, and the line that begins there.
 ///
 /// Errors: `AllocError` if an allocation fails.
-fn place_words(alloc: Global, places: &Places, address: u16) -> Result<Vec<u8>, AllocError>
-    ensures { IfOk result (λ words. words.items ≡ place_words places.now address) }
+fn site_text(alloc: Global, places: &Places, address: u16) -> Result<Vec<u8>, AllocError>
+    ensures { IfOk result (λ site. site.items ≡ site_text places.now address) }
 {
     let mut text = Vec::new(alloc);
     push_name(&mut text, places.names().name_near(address))?;
     places.push_line_at(&mut text, address)?;
-    Ok(text)
-}
-
-/// Returns the same as it is shown, since a file may have any name.
-///
-/// Errors: `AllocError` if an allocation fails.
-fn site_text(alloc: Global, places: &Places, address: u16) -> Result<Vec<u8>, AllocError>
-    ensures { IfOk result (λ site. site.items ≡ site_text places.now address) }
-{
-    let words = place_words(alloc, places, address)?;
-    let mut text = Vec::new(alloc);
-    push_shown(&mut text, words.as_slice())?;
     Ok(text)
 }
 
