@@ -18,7 +18,7 @@ use Rattle.t65_suites.specs.Suites.{SuiteAsked, name_of, suite_view, suites_of}
 use Rattle.word_test.specs.Tested.{fresh_tally, rows_text, sum_text, tally_after, tally_rows}
 use Rattle.t65_runner.specs.Parts.{tests_of}
 use Rattle.t65_suites.specs.Prepared.{Ground, IsPrepared, ground_in, ground_of, tests_in}
-use Rattle.word_test.specs.Told.{AreBegun, AreOutcomes, AreRun, AreTested, HasBegun, IsBegun, IsFaultText, IsOutcome, IsRun, Outcome, manner_of, outcome_by}
+use Rattle.word_test.specs.Told.{AreBegun, AreOutcomes, AreRun, AreTested, HasBegun, IsBegun, IsFaultText, IsOutcome, IsRun, Outcome, manner_of, outcome_by, whole_text}
 use Rattle.t65_suites.specs.declared.fault.FileFault.{FileFault}
 use Rattle.t65_suites.specs.declared.fault.FileFault.TheVariants.{InRows}
 use Rattle.t65_suites.specs.declared.fault.TestFault.TheVariants.{TooLarge}
@@ -111,6 +111,12 @@ stopped r P Q e q = MatchResult-from_err r P (λ _. Q) e (λ _. q)
 -- A text was written, and nothing of the next one.
 pub front_whole : (a b : Option (List ℕ)) (xs ys : List ℕ) → Appends a b xs → AppendsFront a b (xs ++ ys)
 front_whole a b xs ys p = front_after a b b xs ys p (front_none b ys)
+
+-- What was told of all suites begins what is told of them.
+pub begun_if_tested : (asked : TestAsked) (old new : Option (List ℕ)) (passes : Bool) → AreTested asked old new passes → HasBegun asked old new
+begun_if_tested asked old new passes tested =
+    let text = whole_text asked.telling tested.0 in
+    (tested.0, tested.1, subst (AppendsFront old new) (append-nil text) (front_whole old new text [] tested.3))
 
 -- Outcomes of suites.
 record SomeOutcomes (manner : Manner) (count : ℕ) (suites : List SuiteAsked) : Type 0 where

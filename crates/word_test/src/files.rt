@@ -139,7 +139,16 @@ fn run_tested<H: Files + AllocGlobal, O: Write>(
         .begin_suite(rt.alloc(), suite.name(), tests.len())?;
     reports.coverage.begin_suite(rt.alloc())?;
     let first = fresh_tally(count);
-    let tally = run_rows(rt, prepared, &tests, suite, telling, first, output, reports)?;
+    let tally = run_rows(
+        rt.alloc(),
+        prepared,
+        &tests,
+        suite,
+        telling,
+        first,
+        output,
+        reports,
+    )?;
     reports.coverage.end_suite(rt.alloc(), prepared)?;
     reports.junit.end_suite(rt.alloc())?;
     write_sum(rt.alloc(), telling, suite, tally.score, output)?;
@@ -211,7 +220,7 @@ fn run_untested<H: Files + AllocGlobal, O: Write>(
     let tally = untested_tally(why.points, count);
     let told = untested(rt.alloc(), telling, tally.count, suite, why)?;
     reports.junit.begin_suite(rt.alloc(), suite.name(), 1)?;
-    write_told(rt, &told, output, reports)?;
+    write_told(&told, output, reports)?;
     reports.junit.end_suite(rt.alloc())?;
     write_sum(rt.alloc(), telling, suite, tally.score, output)?;
     Ok(tally)
@@ -249,8 +258,8 @@ fn run_suite<H: Files + AllocGlobal, O: Write>(
 ///
 /// # Errors
 ///
-/// `OutOfMemory` if an allocation fails, `Output` and `Report` if these cannot be written: the
-/// output has then a beginning of what is told of the suites. What cannot be read, assembled or
+/// `OutOfMemory` if an allocation fails, `Output` if the output cannot be written: it has then a
+/// beginning of what is told of the suites. What cannot be read, assembled or
 /// loaded is a test that fails, and the other suites are run.
 pub fn run_suites<H: Files + AllocGlobal, O: Write>(
     rt: &H,

@@ -1,8 +1,7 @@
 //! What is written in files beside TAP: a report for JUnit, and which lines were run.
 //!
-//! Both are kept as texts. The report is a whole file after each test, and is written whole: after
-//! the first test, then each time when a sixteenth of it or more is not in the file, and at the
-//! end. So all writes together are as long as some seventeen reports, however many tests there are.
+//! Both are kept as texts, and each is written to its file once, whole, after the last test. So a
+//! run that ends before leaves the files that were there.
 
 ghost use Rattle.std.specs.Prelude.{◌≡◌, IfOk, OnOk};
 ghost use Rattle.std.specs.Option.{option_map};
@@ -17,15 +16,11 @@ use std::rt::Files;
 use t65_reports::Junit;
 use t65_suites::text_of;
 
-/// A report for JUnit, and how much of it is in its file.
+/// A report for JUnit, and the name of its file.
 #[derive(Drop)]
 pub struct ReportFile {
     path: String,
     junit: Junit,
-    /// How many bytes are told of tests.
-    told: usize,
-    /// How many of these are not in the file.
-    unwritten: usize,
 }
 
 /// A report for JUnit; nothing is told where none is asked for.
@@ -48,8 +43,6 @@ fn begin_file(alloc: Global, path: &str) -> Result<ReportFile, AllocError>
     Ok(ReportFile {
         path: text_of(alloc, path)?,
         junit: Junit::new(alloc),
-        told: 0,
-        unwritten: 0,
     })
 }
 
@@ -72,36 +65,11 @@ pub fn begin_report(alloc: Global, path: Option<&str>) -> Result<Report, AllocEr
 
 impl ReportFile {
     /// Writes the report to its file.
-    fn write<H: Files + AllocGlobal>(&mut self, rt: &H) -> Result<(), Stop>
-        ensures { report_told self.new.junit ≡ report_told self.old.junit }
-    {
+    fn write<H: Files + AllocGlobal>(&self, rt: &H) -> Result<(), Stop> {
         let text = self.junit.text(rt.alloc())?;
         match write_file(rt, self.path.as_str(), text.as_bytes()) {
-            Ok(()) => {
-                self.unwritten = 0;
-                Ok(())
-            }
+            Ok(()) => Ok(()),
             Err(refusal) => Err(Stop::of_report(refusal)),
-        }
-    }
-
-    /// Appends the text of a test, and writes the report if much of it is not in its file.
-    fn push_test<H: Files + AllocGlobal>(
-        &mut self,
-        rt: &H,
-        text: &str,
-        passes: bool,
-    ) -> Result<(), Stop>
-        ensures { OnOk result (report_told self.new.junit
-            ≡ with_test passes text.now (report_told self.old.junit)) }
-    {
-        self.junit.push_test(text, passes)?;
-        self.told = self.told.saturating_add(text.len());
-        self.unwritten = self.unwritten.saturating_add(text.len());
-        if self.unwritten >= self.told / 16 {
-            self.write(rt)
-        } else {
-            Ok(())
         }
     }
 }
@@ -120,22 +88,16 @@ impl Report {
         }
     }
 
-    /// Appends the text of a test of the suite, which passes or not, and writes the report if much
-    /// of it is not in its file.
+    /// Appends the text of a test of the suite, which passes or not.
     ///
-    /// Errors: `OutOfMemory` if an allocation fails, `Report` if the file cannot be written.
-    pub fn push_test<H: Files + AllocGlobal>(
-        &mut self,
-        rt: &H,
-        text: &str,
-        passes: bool,
-    ) -> Result<(), Stop>
+    /// Errors: `OutOfMemory` if an allocation fails.
+    pub fn push_test(&mut self, text: &str, passes: bool) -> Result<(), Stop>
         ensures { OnOk result (told_in self.new
             ≡ option_map (with_test passes text.now) (told_in self.old)) }
     {
         match &mut self.file {
             None => Ok(()),
-            Some(file) => file.push_test(rt, text, passes),
+            Some(file) => Ok(file.junit.push_test(text, passes)?),
         }
     }
 
@@ -151,32 +113,26 @@ impl Report {
         }
     }
 
-    /// Writes the report to its file, if some of it is not there yet.
+    /// Writes the report to its file, if one is asked for: after the last suite.
     ///
     /// Errors: `OutOfMemory` if an allocation fails, `Report` if the file cannot be written.
-    pub fn finish<H: Files + AllocGlobal>(&mut self, rt: &H) -> Result<(), Stop>
-        ensures { told_in self.new ≡ told_in self.old }
-    {
-        match &mut self.file {
+    pub fn finish<H: Files + AllocGlobal>(&self, rt: &H) -> Result<(), Stop> {
+        match &self.file {
             None => Ok(()),
-            Some(file) => {
-                if file.unwritten == 0 {
-                    Ok(())
-                } else {
-                    file.write(rt)
-                }
-            }
+            Some(file) => file.write(rt),
         }
     }
 }
 
 impl Reports {
-    /// Writes what is not in its file yet: the records for lcov, and the report for JUnit.
+    /// Writes the files that are asked for: the records for lcov, and the report for JUnit, also
+    /// where the records cannot be written.
     ///
     /// Errors: `OutOfMemory` if an allocation fails, `Report` and `Coverage` if these cannot be
     /// written.
-    pub fn finish<H: Files + AllocGlobal>(&mut self, rt: &H) -> Result<(), Stop> {
-        self.coverage.finish(rt)?;
-        self.junit.finish(rt)
+    pub fn finish<H: Files + AllocGlobal>(&self, rt: &H) -> Result<(), Stop> {
+        let covered = self.coverage.finish(rt);
+        self.junit.finish(rt)?;
+        covered
     }
 }

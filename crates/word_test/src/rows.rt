@@ -30,7 +30,6 @@ use arguments::write_text;
 use debugger::Session;
 use std::alloc::{AllocError, Global};
 use std::io::Write;
-use std::rt::Files;
 use t65_failures::{Bench, detail_of, faulty_text};
 use t65_reader::{Faulty, Line, Ranges, Row, is_hidden};
 use t65_reports::{Case, RowLines, Telling, case_text, junit_case};
@@ -304,30 +303,23 @@ fn run_test(
 
 /// Writes the texts of a test: into the report, and then on the output, which is flushed.
 ///
-/// Where memory runs out, or the report or the output cannot be written, the output has a beginning
-/// of the text that it gets.
-pub fn write_told<H: Files + AllocGlobal, O: Write>(
-    rt: &H,
-    told: &Told,
-    output: &mut O,
-    reports: &mut Reports,
-) -> Result<(), Stop>
+/// Where memory runs out, or the output cannot be written, the output has a beginning of the text
+/// that it gets.
+pub fn write_told<O: Write>(told: &Told, output: &mut O, reports: &mut Reports) -> Result<(), Stop>
     ensures written { Writes (O.contents output.old) (O.contents output.new)
         (string_bytes told.now.tap) result }
     ensures report { OnOk result (told_in reports.new.junit ≡ option_map
         (with_test told.now.passes (string_bytes told.now.junit)) (told_in reports.old.junit)) }
 {
-    reports
-        .junit
-        .push_test(rt, told.junit.as_str(), told.passes)?;
+    reports.junit.push_test(told.junit.as_str(), told.passes)?;
     write_text(output, told.tap.as_bytes())?;
     Ok(())
 }
 
 /// Runs tests of a suite, each from the start of the machine. The texts of a test are written, and
 /// the output is flushed, before the next one runs.
-fn run_each<H: Files + AllocGlobal, O: Write>(
-    rt: &H,
+fn run_each<O: Write>(
+    alloc: Global,
     session: &mut Session,
     prepared: &Prepared,
     around: &Around<'_>,
@@ -364,18 +356,9 @@ fn run_each<H: Files + AllocGlobal, O: Write>(
         let number = so_far.count.saturating_add(1);
         let coverage = &mut reports.coverage;
         let told = run_test(
-            rt.alloc(),
-            session,
-            prepared,
-            around,
-            suite,
-            telling,
-            number,
-            case,
-            test,
-            coverage,
+            alloc, session, prepared, around, suite, telling, number, case, test, coverage,
         )?;
-        write_told(rt, &told, output, reports)?;
+        write_told(&told, output, reports)?;
         so_far = tally_after(told.passes, test.points() as u64, so_far);
     }
     Ok(so_far)
@@ -386,10 +369,10 @@ fn run_each<H: Files + AllocGlobal, O: Write>(
 ///
 /// # Errors
 ///
-/// `OutOfMemory` if an allocation fails, `Output` and `Report` if these cannot be written: the
-/// output has then a beginning of the texts of all tests.
-pub fn run_rows<H: Files + AllocGlobal, O: Write>(
-    rt: &H,
+/// `OutOfMemory` if an allocation fails, `Output` if the output cannot be written: it has then a
+/// beginning of the texts of all tests.
+pub fn run_rows<O: Write>(
+    alloc: Global,
     prepared: &Prepared,
     tests: &[&Line],
     suite: Suite<'_>,
@@ -407,11 +390,11 @@ pub fn run_rows<H: Files + AllocGlobal, O: Write>(
     ensures tally { IfOk result (λ all. all ≡ tally_rows (ground_in prepared.now) tally
         (lines_seen tests.now)) }
 {
-    let around = Around::new(rt.alloc(), &prepared.rows)?;
-    match Session::new(rt.alloc(), prepared.map, prepared.assembly.image(), HISTORY) {
+    let around = Around::new(alloc, &prepared.rows)?;
+    match Session::new(alloc, prepared.map, prepared.assembly.image(), HISTORY) {
         Ok(mut session) => {
             run_each(
-                rt,
+                alloc,
                 &mut session,
                 prepared,
                 &around,

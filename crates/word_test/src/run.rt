@@ -15,16 +15,18 @@ use crate::report::{Reports, begin_report};
 use crate::stop::Stop;
 use crate::words::{TestWords, read_words};
 use arguments::{
-    Refusal, WriteFault, check_output, is_one_output, refuse, refuse_file, refused_words,
-    write_text,
+    Refusal, WriteFault, check_output, is_one_output, put_named, refuse, refuse_file,
+    refused_words, write_text,
 };
 use std::alloc::{AllocError, Global};
+use std::fs;
 use std::io::Write;
+use std::os::unix::fs::FileTypeExt;
 use std::rt::Files;
 use t65_reports::{begin_text, end_text};
 use t65_suites::{TestFault, replaced_by, suites_of};
 
-/// Runs the suites of the words, and tells of them. Returns whether all tests pass.
+/// Runs the suites of the words, and tells of them on the output. Returns whether all tests pass.
 fn run_told<H: Files + AllocGlobal, O: Write>(
     rt: &H,
     words: &TestWords<'_>,
@@ -42,7 +44,6 @@ fn run_told<H: Files + AllocGlobal, O: Write>(
     };
     write_text(output, begin_text(words.telling).as_bytes())?;
     let (count, all_pass) = run_suites(rt, &suites, manner, output, reports)?;
-    reports.finish(rt)?;
     let end = end_text(rt.alloc(), words.telling, count)?;
     write_text(output, end.as_bytes())?;
     Ok(all_pass)
@@ -58,7 +59,19 @@ fn refuse_written<E: Write>(fault: WriteFault, file: Option<&str>, errors: &mut 
     }
 }
 
-/// Writes why no more tests are run, and returns the exit status.
+/// Writes that the report's file is a pipe, and returns the exit status.
+fn refuse_pipe<E: Write>(file: Option<&str>, errors: &mut E) -> u8
+    ensures { result ≡ 4 }
+{
+    put_named(
+        file.unwrap_or(""),
+        &[b": a report is written to a file, not to a pipe\n"],
+        errors,
+    );
+    4
+}
+
+/// Writes why no more tests are run, or why a file is not written, and returns the exit status.
 fn refuse_stop<E: Write>(stop: Stop, words: &TestWords<'_>, errors: &mut E) -> u8
     ensures low { 3 ≤ result }
     ensures high { result ≤ 4 }
@@ -67,8 +80,31 @@ fn refuse_stop<E: Write>(stop: Stop, words: &TestWords<'_>, errors: &mut E) -> u
         Stop::OutOfMemory => refuse(Refusal::OutOfMemory, errors),
         Stop::Output => refuse(Refusal::Write, errors),
         Stop::Report(fault) => refuse_written(fault, words.junit, errors),
+        Stop::Pipe => refuse_pipe(words.junit, errors),
         Stop::Coverage(fault) => refuse_written(fault, words.coverage, errors),
     }
+}
+
+/// Writes that a file is not written, if one is asked for, since not all tests were run.
+fn tell_unwritten<E: Write>(file: Option<&str>, errors: &mut E) {
+    if let Some(file) = file {
+        put_named(
+            file,
+            &[b": not written, since not all tests were run\n"],
+            errors,
+        );
+    }
+}
+
+/// Writes which files are not written since no more tests are run, and why these are not, and
+/// returns the exit status.
+fn refuse_cut<E: Write>(stop: Stop, words: &TestWords<'_>, errors: &mut E) -> u8
+    ensures low { 3 ≤ result }
+    ensures high { result ≤ 4 }
+{
+    tell_unwritten(words.junit, errors);
+    tell_unwritten(words.coverage, errors);
+    refuse_stop(stop, words, errors)
 }
 
 /// Returns the path of the first file that is read and that a report would replace, if there are
@@ -111,7 +147,7 @@ fn replaced_file<H: Files + AllocGlobal>(
 fn refuse_replaced<E: Write>(file: &str, errors: &mut E) -> u8
     ensures { result ≡ 4 }
 {
-    let _ = writeln!(errors, "mos65: {file}: the report would replace it");
+    put_named(file, &[b": the report would replace it\n"], errors);
     4
 }
 
@@ -125,13 +161,31 @@ fn are_one_output<H: Files + AllocGlobal>(rt: &H, words: &TestWords<'_>) -> Resu
     }
 }
 
+/// Returns whether a name is that of a pipe, which has no reader maybe.
+fn is_pipe<H: Files>(rt: &H, path: &str) -> bool {
+    match fs::metadata(rt, path) {
+        Ok(file) => file.file_type().is_fifo(),
+        Err(_) => false,
+    }
+}
+
+/// Checks that the report can be written to a file of that name, which stays as it is.
+///
+/// Errors: `Pipe` if it is a pipe; `Report` if it cannot be written; `OutOfMemory` if an allocation
+/// fails.
+fn check_report<H: Files + AllocGlobal>(rt: &H, path: &str) -> Result<(), Stop> {
+    if is_pipe(rt, path) {
+        return Err(Stop::Pipe);
+    }
+    check_output(rt, path).map_err(Stop::of_report)
+}
+
 /// Checks that the files of the words can be written, which stay as they are.
 ///
-/// Errors: `Report` and `Coverage` if these cannot be written; `OutOfMemory` if an allocation
-/// fails.
+/// Errors: those of `check_report`; `Coverage` if the file for lcov cannot be written.
 fn check_reports<H: Files + AllocGlobal>(rt: &H, words: &TestWords<'_>) -> Result<(), Stop> {
     if let Some(path) = words.junit {
-        check_output(rt, path).map_err(Stop::of_report)?;
+        check_report(rt, path)?;
     }
     if let Some(path) = words.coverage {
         check_output(rt, path).map_err(Stop::of_coverage)?;
@@ -149,7 +203,8 @@ fn begin_reports(alloc: Global, words: &TestWords<'_>) -> Result<Reports, AllocE
     })
 }
 
-/// Runs the suites of the words, and returns the exit status.
+/// Runs the suites of the words, writes their reports, and returns the exit status.
+#[tactic(auto, using(crate::proofs::Facts::begun_if_tested))]
 fn run_reported<H: Files + AllocGlobal, O: Write, E: Write>(
     rt: &H,
     words: &TestWords<'_>,
@@ -171,13 +226,11 @@ fn run_reported<H: Files + AllocGlobal, O: Write, E: Write>(
         Err(_) => return refuse(Refusal::OutOfMemory, errors),
     };
     match run_told(rt, words, output, &mut reports) {
-        Ok(true) => 0,
-        Ok(false) => 1,
-        Err(stop) => {
-            // What was done is told, although no more is.
-            let _ = reports.junit.finish(rt);
-            refuse_stop(stop, words, errors)
-        }
+        Ok(all_pass) => match reports.finish(rt) {
+            Ok(()) => { if all_pass { 0 } else { 1 } }
+            Err(stop) => refuse_stop(stop, words, errors),
+        },
+        Err(stop) => refuse_cut(stop, words, errors),
     }
 }
 
@@ -240,13 +293,13 @@ fn run_words<H: Files + AllocGlobal, O: Write, E: Write>(
 /// - 2: the words are wrong. 3: memory ran out. 4: reading or writing failed.
 ///
 /// TAP, the tests that fail, or CSV goes to `output`, which is flushed after each test. The report
-/// for JUnit goes to its file, if one is asked for: whole, after the first test, when a sixteenth
-/// of it or more is not there, and at the end. The file for lcov is written at the end, with a
-/// record for each suite that was run on a source. A file stays as it is until it is replaced by a
-/// whole one. Neither is a file that is read: where its name is that of a file of the words, or
-/// both have one name, the words are wrong, and where it is another name for one, or is the source
-/// that a file names, the status is 4. What cannot be read, assembled or loaded is a test that
-/// fails, and other files are tested. That `errors` cannot be written changes no status.
+/// for JUnit and the file for lcov, with a record for each suite that was run on a source, are
+/// written if they are asked for, when all tests were run: a file that is there stays until a whole
+/// one replaces it, and where the run ends before, `errors` says that it is not written. The report
+/// goes to no pipe. Neither is a file that is read: where its name is that of a file of the words,
+/// or both have one name, the words are wrong, and where it is another name for one, or is the
+/// source that a file names, the status is 4. What cannot be read, assembled or loaded is a test
+/// that fails, and other files are tested. That `errors` cannot be written changes no status.
 pub fn test<H: Files + AllocGlobal, O: Write, E: Write>(
     rt: &H,
     words: &[&str],

@@ -1,4 +1,4 @@
-//! Why no more tests are run.
+//! Why no more tests are run, or why a file is not written.
 
 ghost use Rattle.std.specs.Prelude.{◌≡◌};
 ghost use Rattle.word_test.specs.declared.stop.Stop.TheVariants as stop;
@@ -6,7 +6,7 @@ ghost use Rattle.word_test.specs.declared.stop.Stop.TheVariants as stop;
 use arguments::{NotWritten, Refusal, WriteFault};
 use std::alloc::AllocError;
 
-/// Why no more tests are run.
+/// Why no more tests are run, or why a file is not written.
 #[derive(Clone, Copy, Debug)]
 pub enum Stop {
     /// An allocation failed.
@@ -15,6 +15,8 @@ pub enum Stop {
     Output,
     /// The report cannot be written, for this reason.
     Report(WriteFault),
+    /// The report's file is a pipe.
+    Pipe,
     /// The file for lcov cannot be written, for this reason.
     Coverage(WriteFault),
 }

@@ -33,19 +33,6 @@ returns-in_err-count g c =
     (subst (Appends old begun) (c.as_bytes.ensures.value ∙ c.begin_text.ensures) c.in_ok-write_text.ensures)
     c.in_err-count.ensures)
 
-pub returns-in_err-finish : goal.returns-in_err-finish
-returns-in_err-finish g c =
-    let old = g.O.Write.contents c.args.output.now in
-    let begun = g.O.Write.contents c.write_text.new.output in
-    let ran = g.O.Write.contents c.run_suites.new.output in
-    stopped _ _ _ c.from_residual-in_err-finish.ensures.0 (front_of_plan (test_view c.args.words.now) _ old begun ran ran c.in_ok-count.count
-    c.in_ok-count.all_pass
-    (ap (λ (s : List Suite). map suite_view s) c.deref-3.ensures.value ∙ (c.in_ok-suites.ensures
-    ∙ ap₂ (λ (s f : List (Bor (List ℕ))). suites_of (test_view c.args.words.now).reading (map (λ x. x.now) s) (map (λ x. x.now) f))
-    c.deref-2.ensures.value c.deref.ensures.value))
-    (subst (Appends old begun) (c.as_bytes.ensures.value ∙ c.begin_text.ensures) c.in_ok-write_text.ensures)
-    c.in_ok-count.ensures (front_none ran (end_text (test_view c.args.words.now).telling c.in_ok-count.count)))
-
 pub returns-in_err-end : goal.returns-in_err-end
 returns-in_err-end g c =
     let old = g.O.Write.contents c.args.output.now in
