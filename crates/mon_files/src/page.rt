@@ -14,7 +14,7 @@ use arguments::Refusal;
 use arguments_play::MonWords;
 use assembler::Assembly;
 use mon_session::MonState;
-use page_writer::{Program as Facts, Texts, facts_of, page_of, source_of, viewer};
+use page_writer::{PAGE_FRONT, Program as Facts, Texts, facts_of, page_of, source_of, viewer};
 use std::alloc::{AllocError, Global};
 use std::rt::Files;
 
@@ -127,13 +127,14 @@ fn write_page<H: Files + AllocGlobal>(
     ensures said { OnOk result ((said : List ℕ) × Says said mon.old mon.new) }
     ensures refused { IfErr result (λ fault. fault ≡ Refusal.OutOfMemory) }
 {
-    let outcome = write_new(rt, words, &mon.places, file, page)?;
+    let outcome = write_new(rt, words, &mon.places, file, Some(PAGE_FRONT), page)?;
     of_memory(say_outcome(mon, file, outcome, events, page.len()))
 }
 
 /// Writes what the session holds to a file, as one page for a browser, and says how many events and
 /// bytes it has, or that it holds none. A file that the session has read is not overwritten, nor a
-/// source that debug information names. The events that are held are undone and made again.
+/// source that debug information names, nor a file that has something else than a page. The events
+/// that are held are undone and made again.
 ///
 /// # Errors
 ///

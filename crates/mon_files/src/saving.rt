@@ -271,6 +271,6 @@ pub fn save_image<H: Files + AllocGlobal>(
     let form = save_form(file);
     let saved = saved_in(rt.alloc(), &mon.session, known.written(), form, stretch);
     let saved = of_memory(saved)?;
-    let outcome = write_new(rt, words, &mon.places, file, saved.text.as_slice())?;
+    let outcome = write_new(rt, words, &mon.places, file, None, saved.text.as_slice())?;
     of_memory(say_saved(mon, file, outcome, saved.count, saved.gaps))
 }

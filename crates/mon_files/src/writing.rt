@@ -10,7 +10,8 @@ ghost use Rattle.mon_session.specs.Course.{ShowsOnly};
 
 use crate::wording::{NOT_UTF8, NOT_WRITTEN, OWN_FILE};
 use arguments::{
-    OtherFiles, Refusal, WriteFault, is_one_file, name_of, put_shown, write_file, write_reason,
+    OtherFiles, Refusal, WriteFault, check_replaced, is_one_file, name_of, put_shown, write_file,
+    write_reason,
 };
 use arguments_play::MonWords;
 use debug_files::is_source;
@@ -97,13 +98,32 @@ fn is_own<H: Files + AllocGlobal>(
     is_source(rt, words.debug_info, words.source_root, Some(places), path)
 }
 
-/// Writes a text to a file, and returns what has become of it.
+/// Writes a text to a file. Where `front` is given, a file that is there is replaced only if it
+/// begins so, or is empty.
+fn write_over<H: Files + AllocGlobal>(
+    rt: &H,
+    path: &str,
+    front: Option<&str>,
+    text: &[u8],
+) -> Result<(), Refusal> {
+    if let Some(front) = front {
+        check_replaced(rt, path, front.as_bytes())?;
+    }
+    write_file(rt, path, text)
+}
+
+/// Writes a text to a file as `write_over` does, and returns what has become of it.
 ///
 /// Errors: `OutOfMemory` if an allocation fails.
-fn write_text<H: Files + AllocGlobal>(rt: &H, path: &str, text: &[u8]) -> Result<Outcome, Refusal>
+fn write_text<H: Files + AllocGlobal>(
+    rt: &H,
+    path: &str,
+    front: Option<&str>,
+    text: &[u8],
+) -> Result<Outcome, Refusal>
     ensures { IfErr result (λ fault. fault ≡ Refusal.OutOfMemory) }
 {
-    match write_file(rt, path, text) {
+    match write_over(rt, path, front, text) {
         Ok(()) => Ok(Outcome::Whole),
         Err(Refusal::OutOfMemory) => Err(Refusal::OutOfMemory),
         Err(Refusal::WriteFile(fault)) => Ok(Outcome::Not(fault)),
@@ -112,7 +132,8 @@ fn write_text<H: Files + AllocGlobal>(rt: &H, path: &str, text: &[u8]) -> Result
 }
 
 /// Writes a text to a file, unless the session has read that file, or its debug information names
-/// it as a source. A file that is there is replaced only by the whole text.
+/// it as a source. A file that is there is replaced only by the whole text, and where `front` is
+/// given only if it begins so, or is empty.
 ///
 /// Errors: `OutOfMemory` if an allocation fails.
 pub fn write_new<H: Files + AllocGlobal>(
@@ -120,6 +141,7 @@ pub fn write_new<H: Files + AllocGlobal>(
     words: &MonWords<'_>,
     places: &Places,
     file: &[u8],
+    front: Option<&str>,
     text: &[u8],
 ) -> Result<Outcome, Refusal>
     ensures apart { IfOk result (λ outcome. outcome ≡ Whole
@@ -132,7 +154,7 @@ pub fn write_new<H: Files + AllocGlobal>(
     if is_own(rt, words, places, path)? {
         return Ok(Outcome::Own);
     }
-    write_text(rt, path, text)
+    write_text(rt, path, front, text)
 }
 
 /// Says the name of a file, with a `?` for each control character.
