@@ -165,7 +165,7 @@ class Machine:
         if port is not None:
             port = _number("Map", f"port={port!r:.60}", port, 0xFFFF)
         self.port, self.history, self._name = port, history, ""
-        self._program, self._timeout = program, timeout
+        self._program = program
         source, form = self._read(source, form, tape, at)
         if symbols is not None and form == "source":
             raise Refused("Words", text="a source has its own names")
@@ -194,7 +194,7 @@ class Machine:
         Machine.open_machines.add(self)
 
     def _mos65(self) -> str:
-        return words.find_program(self._program, self._timeout)
+        return words.find_program(self._program)
 
     def _read(
         self, source: Any, form: Optional[str], tape: Optional[bool], at: Optional[int]

@@ -21,15 +21,15 @@ UNNAMED = "source"
 _FAULT = re.compile(r"(?m)^source:(\d+):\d+: (\w+) (\d+): ")
 
 
-# The programs that have said who they are.
+# The programs that have said who they are, and in how many seconds one has to.
 _known: Set[str] = set()
+SECONDS = 60.0
 
 
-def find_program(program: Union[str, "os.PathLike[str]", None], seconds: float = 10.0) -> str:
+def find_program(program: Union[str, "os.PathLike[str]", None]) -> str:
     """The program to run: the one that is given, that of MOS65_PROGRAM, or `mos65` on the PATH.
 
-    Raises EngineDied, NoProgram, where there is none, or it does not say within so many seconds
-    that it is mos65.
+    Raises EngineDied, NoProgram, where there is none, or it does not say that it is mos65.
     """
     given = None if program is None else os.fsdecode(program)
     found = given or os.environ.get("MOS65_PROGRAM") or shutil.which("mos65")
@@ -38,17 +38,17 @@ def find_program(program: Union[str, "os.PathLike[str]", None], seconds: float =
     # It is started in other folders too.
     found = os.path.abspath(found) if os.sep in found else found
     if found not in _known:
-        _ask_name(found, seconds)
+        _ask_name(found)
         _known.add(found)
     return found
 
 
-def _ask_name(program: str, seconds: float) -> None:
+def _ask_name(program: str) -> None:
     """Raises EngineDied where a program does not say that it is mos65."""
     try:
-        told = _run(program, "--version", seconds=seconds)[1]
+        told = _run(program, "--version", seconds=SECONDS)[1]
     except subprocess.TimeoutExpired:
-        text = f"{program} does not answer --version in {seconds} seconds"
+        text = f"{program} does not answer --version in {SECONDS} seconds"
         raise EngineDied("NoProgram", text=text) from None
     if not told.startswith("mos65"):
         first = told.partition("\n")[0]

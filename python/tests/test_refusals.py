@@ -6,6 +6,7 @@ import stat
 import tempfile
 import threading
 import unittest
+import unittest.mock
 
 from ways import LIBRARY, PROGRAM, SECONDS, SOURCE, Ways  # first: it finds the package
 
@@ -198,7 +199,8 @@ class Files(unittest.TestCase):
             with open(slow, "w", encoding="ascii") as it:
                 it.write("#!/bin/sh\nexec sleep 60\n")
             os.chmod(slow, stat.S_IRWXU)
-            text = self.no_program(slow, timeout=0.2)
+            with unittest.mock.patch("mos65.words.SECONDS", 0.2):
+                text = self.no_program(slow)
             self.assertEqual(text, f"NoProgram: {slow} does not answer --version in 0.2 seconds")
 
 
