@@ -67,7 +67,7 @@ frames_at t regs = frames_of t.program t.depths regs
 -- ---- locals
 
 -- Where each local of a function is in a frame.
-abbrev pub local_in : TablesView → Frame → List Auto → Auto → Option Local
+unfoldable pub local_in : TablesView → Frame → List Auto → Auto → Option Local
 local_in t frame autos auto = local_at t.program t.rests frame autos auto
 
 abbrev pub locals_at : TablesView → Frame → FunctionView → List (Option Local)

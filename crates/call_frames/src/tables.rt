@@ -127,6 +127,7 @@ impl Tables {
 
     /// Returns where a local is in a frame, by all locals of its function: nowhere if its address
     /// is below the software stack pointer, or is not known.
+    #[tactic(auto, unfolding(crate::specs::Tables::local_in))]
     pub fn local_in(&self, frame: Frame, autos: &[Auto], auto: Auto) -> Option<Local>
         ensures { result ≡ local_in self.now frame autos.now auto }
     {
