@@ -2,3 +2,4 @@ pub mod Bytes
 pub mod NameStarts
 pub mod Told
 pub mod Undebugged
+pub mod Named

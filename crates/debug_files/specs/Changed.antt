@@ -1,6 +1,6 @@
 -- What is told of the sources that a debug file names: those that have changed since it was made, and
 -- that they are not found. No clause can say which these are. Source: mos65.
-use Rattle.std.specs.Prelude.{◌≡◌, ℕ, ◌+◌, ◌^◌, ◌-◌, ◌==◌, ◌&&◌, ◌||◌, min, not, nat_lt, Bool, true, false, if◌then◌else◌, List, length, ◌++◌, codes, decimal, Option, Some, None}
+use Rattle.std.specs.Prelude.{◌≡◌, ℕ, ◌+◌, ◌^◌, ◌-◌, ◌==◌, ◌&&◌, ◌||◌, min, not, nat_lt, Bool, true, false, if◌then◌else◌, List, [], length, ◌++◌, codes, decimal, Option, Some, None, option_map}
 use Rattle.arguments.specs.FaultLines.{line_of}
 use Rattle.arguments.specs.Shown.{shown_bytes}
 use Rattle.debug_files.specs.Paths.{begins_at_root}
@@ -19,6 +19,14 @@ has_size count (Some size) = count == size
 abbrev pub state_of : Option ℕ → Option ℕ → SourceState
 state_of None size = Missing
 state_of (Some count) size = if has_size count size then Same else Changed
+
+-- By the bytes of it, if it can be read: its text are these, if it has not changed.
+abbrev pub state_by : Option (List ℕ) → Option ℕ → SourceState
+state_by read size = state_of (option_map length read) size
+
+abbrev pub text_by : Option (List ℕ) → Option ℕ → List ℕ
+text_by None size = []
+text_by (Some bytes) size = if has_size (length bytes) size then bytes else []
 
 -- ---- all of them
 
@@ -67,6 +75,13 @@ with_source name Missing sought = record sought {
   missing = one_more sought.missing;
   first = first_of sought.first name;
 }
+
+-- A source is looked for once: what can be read of it says which text is shown, and what is noted.
+pub record IsFound (name : List ℕ) (size : Option ℕ) (held now : Sought) (shown : List ℕ)
+    : Type 0 where
+  pub read : Option (List ℕ)
+  pub noted : now ≡ with_source name (state_by read size) held
+  pub text : shown ≡ text_by read size
 
 -- ---- what is told
 

@@ -2,6 +2,7 @@
 
 ghost use Rattle.std.specs.Prelude.{◌≡◌, ◌∷◌, ◌++◌, [], IfErr, IfOk, Ok, OnOk, length, map};
 ghost use Rattle.std.specs.Prelude.{option_map};
+ghost use Rattle.debug_files.specs.Changed.{IsFound, sought_view};
 ghost use Rattle.debug_files.specs.Loads.{named, names_in};
 ghost use Rattle.debug_records.specs.Views.{file_view};
 ghost use Rattle.source_map.specs.Lines.{source_view};
@@ -103,7 +104,10 @@ fn text_of<H: Files + AllocGlobal>(
     source: File<'_>,
     sought: &mut Sought,
 ) -> Result<Vec<u8>, Refusal>
-    ensures { IfErr result (λ fault. fault ≡ Refusal.OutOfMemory) }
+    // What can be read, no clause can say.
+    ensures found { IfOk result (λ text. IsFound source.entry.name.now source.entry.size
+        (sought_view sought.old) (sought_view sought.new) text.items) }
+    ensures refused { IfErr result (λ fault. fault ≡ Refusal.OutOfMemory) }
 {
     let text = bytes_of(rt, file, root, source.name)?;
     let state = state_of(count_of(&text), source.size);

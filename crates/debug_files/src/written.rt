@@ -1,10 +1,12 @@
 //! A file that is to be written is none of the sources that debug information names.
 
 ghost use Rattle.std.specs.List.{list_any};
-ghost use Rattle.std.specs.Prelude.{◌≡◌, IfErr, IfOk, IfSome, None, false, map, option_map};
+ghost use Rattle.std.specs.Prelude.{◌≡◌, ◌<◌, IfErr, IfOk, IfSome, None, false, length, map};
+ghost use Rattle.std.specs.Prelude.{option_map, true};
 ghost use Rattle.std.specs.Str.{bytes_eq};
 ghost use Rattle.arguments.specs.Files.{EndsWriting};
-ghost use Rattle.debug_files.specs.Written.{IsPathOf, is_among, is_source, lies_at, names_at};
+ghost use Rattle.debug_files.specs.Written.{IsPathOf, Names, NamesPath, Spares, SparesPath};
+ghost use Rattle.debug_files.specs.Written.{has_source, is_among, is_source, lies_at, names_at};
 ghost use Rattle.debug_files.specs.Written.{replaces_source};
 ghost use Rattle.debug_records.specs.Views.{file_view};
 ghost use Rattle.source_map.specs.Lines.{source_view};
@@ -68,6 +70,7 @@ fn is_among<H: Files + AllocGlobal>(
     ensures apart { IfOk result (λ is. is ≡ false
         → is_among file.now (option_map (λ r. r.now) root.entry)
         (map source_view sources.now) out.now ≡ false) }
+    ensures among { IfOk result (λ is. is ≡ true → 0 < length sources.now) }
     ensures memory { IfErr result (λ refusal. refusal ≡ Refusal.OutOfMemory) }
 {
     for source in sources {
@@ -96,6 +99,9 @@ pub fn is_source<H: Files + AllocGlobal>(
     ensures apart { IfOk result (λ is. is ≡ false → is_source (option_map (λ f. f.now) file.entry)
         (option_map (λ r. r.now) root.entry) (option_map (λ p. p.now) places.entry) out.now
         ≡ false) }
+    // Without a source it is none.
+    ensures among { IfOk result (λ is. is ≡ true → has_source (option_map (λ f. f.now) file.entry)
+        (option_map (λ p. p.now) places.entry) ≡ true) }
     ensures memory { IfErr result (λ refusal. refusal ≡ Refusal.OutOfMemory) }
 {
     match file {
@@ -149,6 +155,9 @@ fn path_replaced<H: Files + AllocGlobal>(
     ensures spared { IfOk result (λ found. found ≡ None
         → names_at file.now (option_map (λ r. r.now) root.entry) out.now
         (option_map file_view source.entry) ≡ false) }
+    ensures named { IfOk result (λ found. IfSome found
+        (λ path. names_at file.now (option_map (λ r. r.now) root.entry) path.items
+        (option_map file_view source.entry) ≡ true)) }
     ensures found { IfOk result (λ found. IfSome found
         (λ path. IsPathOf file.now (option_map (λ r. r.now) root.entry) path.items)) }
     ensures memory { IfErr result (λ refusal. refusal ≡ Refusal.OutOfMemory) }
@@ -178,6 +187,9 @@ fn first_replaced<H: Files + AllocGlobal>(
     ensures spared { IfOk result (λ found. found ≡ None
         → list_any (names_at file.now (option_map (λ r. r.now) root.entry) out.now)
         (map (option_map file_view) files.now) ≡ false) }
+    ensures named { IfOk result (λ found. IfSome found
+        (λ path. list_any (names_at file.now (option_map (λ r. r.now) root.entry) path.items)
+        (map (option_map file_view) files.now) ≡ true)) }
     ensures found { IfOk result (λ found. IfSome found
         (λ path. IsPathOf file.now (option_map (λ r. r.now) root.entry) path.items)) }
     ensures memory { IfErr result (λ refusal. refusal ≡ Refusal.OutOfMemory) }
@@ -189,6 +201,32 @@ fn first_replaced<H: Files + AllocGlobal>(
         }
     }
     Ok(None)
+}
+
+/// Returns the path of the first source that the text of a debug file names and a file is, or would
+/// be; none if the text has a fault.
+///
+/// Errors: `OutOfMemory` if an allocation fails.
+fn replaced_by_text<H: Files + AllocGlobal>(
+    rt: &H,
+    file: &str,
+    root: Option<&str>,
+    text: &[u8],
+    out: &str,
+) -> Result<Option<Vec<u8>>, Refusal>
+    ensures spared { IfOk result (λ found. found ≡ None
+        → Spares file.now (option_map (λ r. r.now) root.entry) out.now text.now) }
+    ensures named { IfOk result (λ found. IfSome found
+        (λ path. Names file.now (option_map (λ r. r.now) root.entry) path.items text.now)) }
+    ensures found { IfOk result (λ found. IfSome found
+        (λ path. IsPathOf file.now (option_map (λ r. r.now) root.entry) path.items)) }
+    ensures memory { IfErr result (λ refusal. refusal ≡ Refusal.OutOfMemory) }
+{
+    match read_info(rt.alloc(), text) {
+        Ok(info) => first_replaced(rt, file, root, info.files.as_slice(), out),
+        Err(DebugError::OutOfMemory) => Err(Refusal::OutOfMemory),
+        Err(DebugError::Fault(_)) => Ok(None),
+    }
 }
 
 /// Reads a debug file, and returns the path of the first source that it names and a file is, or
@@ -203,18 +241,18 @@ pub fn replaced_source<H: Files + AllocGlobal>(
     root: Option<&str>,
     out: &str,
 ) -> Result<Option<Vec<u8>>, Refusal>
+    // What is in the debug file, no clause can say.
+    ensures spared { IfOk result (λ found. found ≡ None
+        → SparesPath file.now (option_map (λ r. r.now) root.entry) out.now) }
+    ensures named { IfOk result (λ found. IfSome found (λ path.
+        NamesPath file.now (option_map (λ r. r.now) root.entry) path.items)) }
     ensures found { IfOk result (λ found. IfSome found
         (λ path. IsPathOf file.now (option_map (λ r. r.now) root.entry) path.items)) }
     ensures memory { IfErr result (λ refusal. refusal ≡ Refusal.OutOfMemory) }
 {
-    let text = match read_most(rt, file, MOST) {
-        Ok(text) => text,
-        Err(Refusal::OutOfMemory) => return Err(Refusal::OutOfMemory),
-        Err(_) => return Ok(None),
-    };
-    match read_info(rt.alloc(), text.as_slice()) {
-        Ok(info) => first_replaced(rt, file, root, info.files.as_slice(), out),
-        Err(DebugError::OutOfMemory) => Err(Refusal::OutOfMemory),
-        Err(DebugError::Fault(_)) => Ok(None),
+    match read_most(rt, file, MOST) {
+        Ok(text) => replaced_by_text(rt, file, root, text.as_slice(), out),
+        Err(Refusal::OutOfMemory) => Err(Refusal::OutOfMemory),
+        Err(_) => Ok(None),
     }
 }
