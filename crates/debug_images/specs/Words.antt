@@ -1,6 +1,7 @@
--- Words with a debug file as the program: its files stand in its place, and it is debug information.
+-- Words with a debug file as the program: its files stand in its place, before all other words, and it
+-- is debug information.
 -- Source: mos65.
-use Rattle.std.specs.Prelude.{◌≡◌, ℕ, nat_eq, Bool, false, List, [], ◌∷◌, ◌++◌, codes, length, drop, Option, Some, None, Ok}
+use Rattle.std.specs.Prelude.{◌≡◌, ℕ, nat_eq, Bool, List, [], ◌∷◌, ◌++◌, codes, length, drop, Option, Some, None, Ok}
 use Rattle.std.specs.List.{ends_with}
 use Rattle.clap.specs.Words.{Text}
 use Rattle.debug_files.specs.Paths.{folder_of}
@@ -9,14 +10,10 @@ use Rattle.debug_records.specs.Info.{Info}
 use Rattle.debug_records.specs.Reading.{debug_info}
 use Rattle.model.specs.Text.{hex_address}
 
--- ---- whether words have a debug file as the program: it stands first
+-- ---- whether a file is the debug file of a program, by its ending
 
 abbrev pub names_program : Text → Bool
 names_program word = ends_with nat_eq word (codes ".dbg")
-
-abbrev pub asks_for_program : List Text → Bool
-asks_for_program [] = false
-asks_for_program (word ∷ words) = names_program word
 
 -- ---- the files in its place
 
@@ -41,7 +38,7 @@ part_words file [] = []
 part_words file (part ∷ parts)
     = part_word_if file part.file (address_of part.base) ++ part_words file parts
 
--- The words with these in the place of the first one.
+-- These words, the debug information, and the other words.
 abbrev pub with_parts : Text → List Part → List Text → List Text
 with_parts file parts rest = part_words file parts ++ (codes "--debug-info" ∷ file ∷ rest)
 
@@ -51,6 +48,6 @@ IsWords file text rest made = (info : Info) × (debug_info text ≡ Ok info)
     × (first_unplaced (parts_of info.segments) ≡ None)
     × (made ≡ with_parts file (parts_of info.segments) rest)
 
-abbrev pub IsWithParts : List Text → List Text → Type 0
-IsWithParts [] made = ⊥
-IsWithParts (file ∷ rest) made = (text : List ℕ) × IsWords file text rest made
+-- The same with some text of the debug file.
+abbrev pub IsWithParts : Text → List Text → List Text → Type 0
+IsWithParts file rest made = (text : List ℕ) × IsWords file text rest made

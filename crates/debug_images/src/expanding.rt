@@ -7,7 +7,7 @@ ghost use Rattle.debug_images.specs.Parts.{part_view};
 
 use crate::fault::ImageFault;
 use crate::parts::{Part, end_of, first_unplaced, parts_of};
-use crate::words::{part_words, path_of, push_words};
+use crate::words::{part_words, path_of, push_words, shown};
 use arguments::{LoadFault, read_most};
 use debug_files::load_fault;
 use debug_records::{Segment, read_debug_info};
@@ -17,7 +17,7 @@ use std::rt::Files;
 /// One byte more than the longest debug file.
 const MOST: u64 = 16_777_217;
 
-/// Returns words with the files of a program and its debug file in the place of the first one.
+/// Returns the files of a program and its debug file as words, and the other words behind them.
 fn with_parts(
     alloc: Global,
     file: &str,
@@ -85,33 +85,31 @@ fn words_by<H: Files + AllocGlobal>(
         return Err(ImageFault::NoFile);
     }
     if let Some(name) = first_unplaced(parts.as_slice()) {
-        return Err(ImageFault::NoPlace(Vec::from_slice(rt.alloc(), name)?));
+        return Err(ImageFault::NoPlace(shown(rt.alloc(), name)?));
     }
     if let Some(name) = first_short(rt, file, parts.as_slice(), segments)? {
-        return Err(ImageFault::Short(Vec::from_slice(rt.alloc(), name)?));
+        return Err(ImageFault::Short(shown(rt.alloc(), name)?));
     }
     with_parts(rt.alloc(), file, parts.as_slice(), rest)
 }
 
-/// Reads the debug file that stands first among words, and returns words with the files of its
-/// program in its place, and with its debug information.
+/// Reads a debug file, and returns the files of its program as words, itself as debug information,
+/// and the other words behind them, `rest`.
 ///
 /// # Errors
 ///
 /// `Unread` if the debug file is not read, or with the first fault of its text; `NoFile` if no
 /// segment has bytes in a file; `NoPlace` with the first file whose segments do not agree on where
-/// it stands; `Short` with the first file that has fewer bytes than its segments; `Unreadable` if
-/// the name of a file is no text; `OutOfMemory` if an allocation fails.
+/// it stands; `Short` with the first file that has fewer bytes than its segments; `NoText` with the
+/// first file whose path is no UTF-8; `OutOfMemory` if an allocation fails.
 pub fn image_words<H: Files + AllocGlobal>(
     rt: &H,
-    words: &[&str],
+    file: &str,
+    rest: &[&str],
 ) -> Result<Vec<String>, ImageFault>
-    ensures { IfOk result
-        (λ made. IsWithParts (texts words.entry.now) (map string_bytes made.items)) }
+    ensures { IfOk result (λ made. IsWithParts file.now (texts rest.entry.now)
+        (map string_bytes made.items)) }
 {
-    let [file, rest @ ..] = words else {
-        return Err(ImageFault::NoFile);
-    };
     match read_most(rt, file, MOST) {
         Ok(text) => words_by(rt, file, text.as_slice(), rest),
         Err(refusal) => Err(ImageFault::Unread(LoadFault::Refused(refusal))),

@@ -1,32 +1,33 @@
 //! Words with the files of a program.
 
 ghost use Rattle.std.specs.Prelude.{◌≡◌, ◌∷◌, ◌++◌, [], IfOk, OnOk, map, string_bytes};
+ghost use Rattle.arguments.specs.Shown.{shown_bytes};
 ghost use Rattle.arguments.specs.Words.{texts};
 ghost use Rattle.debug_images.specs.Parts.{part_view};
-ghost use Rattle.debug_images.specs.Words.{asks_for_program, name_in, names_program, part_word};
-ghost use Rattle.debug_images.specs.Words.{part_word_if, part_words, path_of};
+ghost use Rattle.debug_images.specs.Words.{name_in, names_program, part_word, part_word_if};
+ghost use Rattle.debug_images.specs.Words.{part_words, path_of};
 
 use crate::fault::ImageFault;
 use crate::parts::{Part, address_of};
+use arguments::push_shown;
 use debug_files::folder_of;
 use formatting::push_address;
 use std::alloc::{AllocError, Global};
 
-/// Returns whether a word names a debug file.
-fn names_program(word: &str) -> bool
+/// Returns whether the name of a file is that of a debug file.
+pub fn names_program(word: &str) -> bool
     ensures { result ≡ names_program word.now }
 {
     word.as_bytes().ends_with(b".dbg")
 }
 
-/// Returns whether words have a debug file as the program: whether it stands first.
-pub fn asks_for_program(words: &[&str]) -> bool
-    ensures { result ≡ asks_for_program (texts words.entry.now) }
+/// Returns the name of a file as it is shown.
+pub fn shown(alloc: Global, name: &[u8]) -> Result<Vec<u8>, AllocError>
+    ensures { IfOk result (λ text. text.items ≡ shown_bytes name.now) }
 {
-    match words {
-        [] => false,
-        [first, ..] => names_program(first),
-    }
+    let mut text = Vec::new(alloc);
+    push_shown(&mut text, name)?;
+    Ok(text)
 }
 
 /// Returns the name of a file without its folder.
@@ -56,13 +57,18 @@ fn part_word(alloc: Global, file: &str, name: &[u8], base: u16) -> Result<Vec<u8
     Ok(word)
 }
 
-/// Appends a word of some bytes.
-fn push_bytes(words: &mut Vec<String>, bytes: Vec<u8>) -> Result<(), ImageFault>
+/// Appends a path with the address of the first byte, unless it is no UTF-8: the name is then told.
+fn push_path(
+    alloc: Global,
+    words: &mut Vec<String>,
+    path: Vec<u8>,
+    name: &[u8],
+) -> Result<(), ImageFault>
     ensures { OnOk result (map string_bytes words.new.items
-        ≡ map string_bytes words.old.items ++ bytes.items ∷ []) }
+        ≡ map string_bytes words.old.items ++ path.items ∷ []) }
 {
-    let Ok(word) = String::from_utf8(bytes) else {
-        return Err(ImageFault::Unreadable);
+    let Ok(word) = String::from_utf8(path) else {
+        return Err(ImageFault::NoText(shown(alloc, name)?));
     };
     words.push(word)?;
     Ok(())
@@ -92,13 +98,13 @@ fn push_part(
         None => Ok(()),
         Some(base) => {
             let word = part_word(alloc, file, name, base)?;
-            push_bytes(words, word)
+            push_path(alloc, words, word, name)
         }
     }
 }
 
-/// Returns the words of files. The only errors are that an allocation failed, or that a name is no
-/// text.
+/// Returns the words of files. The only errors are that an allocation failed, or that a path is no
+/// UTF-8.
 pub fn part_words(alloc: Global, file: &str, parts: &[Part<'_>]) -> Result<Vec<String>, ImageFault>
     ensures { IfOk result (λ words. map string_bytes words.items
         ≡ part_words file.now (map part_view parts.now)) }

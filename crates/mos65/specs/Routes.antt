@@ -1,32 +1,22 @@
--- Which call serves the words of the program. Source: mos65.
-use Rattle.std.specs.Prelude.{Bool, true, false, List, [], ◌∷◌, ◌==◌, ◌||◌, bytes_eq, codes, if◌then◌else◌}
-use Rattle.std.specs.List.{starts_with}
+-- Which call serves the words of the program. An option is told in both of its forms, `--name` and
+-- `--name=value`, at any place before `--`. Source: mos65.
+use Rattle.std.specs.Prelude.{Bool, true, false, List, [], ◌∷◌, ◌||◌, bytes_eq, codes, if◌then◌else◌}
+use Rattle.arguments.specs.Given.{has_option}
 use Rattle.word_asm.specs.Asked.{asks_for_files}
 use Rattle.clap.specs.Words.{Text}
 use Rattle.mos65.specs.declared.routes.Route.{Route}
 use Rattle.mos65.specs.declared.routes.Route.TheVariants as to
 use Rattle.word_debug.specs.Strict.{is_strict}
 
--- A word is among others.
-abbrev pub has : Text → List Text → Bool
-has word [] = false
-has word (first ∷ rest) = bytes_eq first word || has word rest
-
 -- A single word asks for help.
 abbrev pub asks_for_help : List Text → Bool
 asks_for_help (word ∷ []) = bytes_eq word (codes "--help") || bytes_eq word (codes "-h")
 asks_for_help words = false
 
--- A word says that a file is an image: `--image`, `--bin` or `--prg`.
-abbrev pub names_image : Text → Bool
-names_image word = bytes_eq word (codes "--image") || bytes_eq word (codes "--prg")
-    || bytes_eq word (codes "--bin") || starts_with (λ a b. a == b) word (codes "--bin=")
-
--- Such a word stands before `--`, after which no word is an option.
+-- An option says that a file is an image: `--image`, `--bin` or `--prg`.
 abbrev pub asks_for_image : List Text → Bool
-asks_for_image [] = false
-asks_for_image (word ∷ words) = if bytes_eq word (codes "--") then false
-    else names_image word || asks_for_image words
+asks_for_image words = has_option (codes "image") words || has_option (codes "bin") words
+    || has_option (codes "prg") words
 
 -- The words that one call each serves, by their names.
 unfoldable pub added : List (Text × Route)
@@ -49,21 +39,21 @@ asm_route rest = if asks_for_help rest then to.Whole
 -- Options of `dis` say how control is followed, what ranges have, and labels, names, marks or
 -- addresses.
 abbrev pub asks_for_following : List Text → Bool
-asks_for_following rest = has (codes "--follow") rest || has (codes "--follow-only") rest
-    || has (codes "--inline") rest
+asks_for_following rest = has_option (codes "follow") rest
+    || has_option (codes "follow-only") rest || has_option (codes "inline") rest
 
 abbrev pub asks_for_ranges : List Text → Bool
-asks_for_ranges rest = has (codes "--data") rest || has (codes "--text") rest
-    || has (codes "--words") rest || has (codes "--rts-words") rest
+asks_for_ranges rest = has_option (codes "data") rest || has_option (codes "text") rest
+    || has_option (codes "words") rest || has_option (codes "rts-words") rest
 
 abbrev pub asks_for_names : List Text → Bool
-asks_for_names rest = has (codes "--labels") rest || has (codes "--symbols") rest
-    || has (codes "--marks") rest || has (codes "--addresses") rest
+asks_for_names rest = has_option (codes "labels") rest || has_option (codes "symbols") rest
+    || has_option (codes "marks") rest || has_option (codes "addresses") rest
 
 -- An option is among the words that only a source has. Without `--source` it is refused.
 abbrev pub asks_for_source : List Text → Bool
-asks_for_source rest = has (codes "--source") rest || asks_for_following rest
-    || asks_for_ranges rest || asks_for_names rest
+asks_for_source rest = has_option (codes "source") rest || has_option (codes "fill") rest
+    || asks_for_following rest || asks_for_ranges rest || asks_for_names rest
 
 abbrev pub dis_route : List Text → Route
 dis_route rest = if asks_for_help rest then to.Whole

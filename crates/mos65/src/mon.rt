@@ -1,7 +1,8 @@
 //! The command `mon`.
 
-use crate::debug_file::with_program;
+use crate::debug_file::{has_file, with_program};
 use crate::pipe::{Piped, Quiet, after_name};
+use arguments_play::mon_command;
 use standard_streams::Retrying;
 use std::cell::Cell;
 use std::io;
@@ -9,7 +10,8 @@ use word_mon::mon;
 
 /// Serves `mon`, and returns the exit status. `words` begin with the command's name.
 pub fn serve(rt: &HostRuntime, words: &[&str], unread: &Cell<bool>) -> u8 {
-    with_program(rt, after_name(words), unread, |all| {
+    let is_file = |some: &[&str], file: &str| has_file(mon_command(rt.alloc()), some, file);
+    with_program(rt, after_name(words), unread, is_file, |all| {
         mon(
             rt,
             all,

@@ -5,8 +5,9 @@ ghost use Rattle.arguments.specs.Words.{texts};
 ghost use Rattle.mos65.specs.Routes.{added, asks_for_help, asks_for_image, asks_for_source};
 ghost use Rattle.mos65.specs.Routes.{asks_for_following, asks_for_names, asks_for_ranges};
 ghost use Rattle.mos65.specs.Routes.{asm_route, debug_route};
-ghost use Rattle.mos65.specs.Routes.{dis_route, find, has, names_image, route_of, session_route};
+ghost use Rattle.mos65.specs.Routes.{dis_route, find, route_of, session_route};
 
+use arguments::has_option;
 use word_asm::asks_for_files;
 use word_debug::is_strict;
 
@@ -87,41 +88,11 @@ fn asks_for_help(words: &[&str]) -> bool
     }
 }
 
-/// Returns whether a word is among others.
-fn has(word: &str, words: &[&str]) -> bool
-    ensures { result ≡ has word.now (texts words.entry.now) }
-{
-    for other in words {
-        if *other == word {
-            return true;
-        }
-    }
-    false
-}
-
-/// Returns whether a word says that a file is an image: `--image`, `--bin` or `--prg`.
-fn names_image(word: &str) -> bool
-    ensures { result ≡ names_image word.now }
-{
-    word == "--image"
-        || word == "--prg"
-        || word == "--bin"
-        || word.as_bytes().starts_with(b"--bin=")
-}
-
-/// Returns whether such a word stands before a word `--`.
+/// Returns whether an option says that a file is an image: `--image`, `--bin` or `--prg`.
 fn asks_for_image(words: &[&str]) -> bool
     ensures { result ≡ asks_for_image (texts words.entry.now) }
 {
-    for word in words {
-        if *word == "--" {
-            return false;
-        }
-        if names_image(word) {
-            return true;
-        }
-    }
-    false
+    has_option("image", words) || has_option("bin", words) || has_option("prg", words)
 }
 
 /// Returns the call for the words after `asm`.
@@ -141,31 +112,35 @@ fn asm_route(rest: &[&str]) -> Route
 fn asks_for_following(rest: &[&str]) -> bool
     ensures { result ≡ asks_for_following (texts rest.entry.now) }
 {
-    has("--follow", rest) || has("--follow-only", rest) || has("--inline", rest)
+    has_option("follow", rest) || has_option("follow-only", rest) || has_option("inline", rest)
 }
 
 /// Whether an option is among the words that says what ranges have.
 fn asks_for_ranges(rest: &[&str]) -> bool
     ensures { result ≡ asks_for_ranges (texts rest.entry.now) }
 {
-    has("--data", rest) || has("--text", rest) || has("--words", rest) || has("--rts-words", rest)
+    has_option("data", rest)
+        || has_option("text", rest)
+        || has_option("words", rest)
+        || has_option("rts-words", rest)
 }
 
 /// Whether an option is among the words that gives labels, names, marks or addresses.
 fn asks_for_names(rest: &[&str]) -> bool
     ensures { result ≡ asks_for_names (texts rest.entry.now) }
 {
-    has("--labels", rest)
-        || has("--symbols", rest)
-        || has("--marks", rest)
-        || has("--addresses", rest)
+    has_option("labels", rest)
+        || has_option("symbols", rest)
+        || has_option("marks", rest)
+        || has_option("addresses", rest)
 }
 
 /// Whether an option is among the words that only a source has.
 fn asks_for_source(rest: &[&str]) -> bool
     ensures { result ≡ asks_for_source (texts rest.entry.now) }
 {
-    has("--source", rest)
+    has_option("source", rest)
+        || has_option("fill", rest)
         || asks_for_following(rest)
         || asks_for_ranges(rest)
         || asks_for_names(rest)

@@ -1,7 +1,8 @@
 //! The command `trace`.
 
-use crate::debug_file::with_program;
+use crate::debug_file::{has_file, with_program};
 use crate::pipe::{Piped, Quiet, after_name};
+use arguments_play::trace_command;
 use standard_streams::Retrying;
 use std::cell::Cell;
 use std::io;
@@ -9,7 +10,8 @@ use word_trace::trace_program;
 
 /// Serves `trace`, and returns the exit status. `words` begin with the command's name.
 pub fn serve(rt: &HostRuntime, words: &[&str], unread: &Cell<bool>) -> u8 {
-    with_program(rt, after_name(words), unread, |all| {
+    let is_file = |some: &[&str], file: &str| has_file(trace_command(rt.alloc()), some, file);
+    with_program(rt, after_name(words), unread, is_file, |all| {
         trace_program(
             rt,
             all,

@@ -1,8 +1,8 @@
 -- What the words of `asm` with further files ask for, and which words these are. Source: mos65.
-use Rattle.std.specs.Prelude.{ℕ, Bool, false, List, [], ◌∷◌, Option, Some, None, codes, ◌==◌, ◌||◌, if◌then◌else◌, is_some, not, ◌&&◌}
-use Rattle.std.specs.List.{starts_with}
+use Rattle.std.specs.Prelude.{ℕ, Bool, false, List, [], ◌∷◌, Option, Some, None, codes, ◌||◌, if◌then◌else◌, is_some, not, ◌&&◌}
 use Rattle.std.specs.Str.{bytes_eq}
 use Rattle.arguments.specs.Asked.{is_flag}
+use Rattle.arguments.specs.Given.{has_option}
 use Rattle.clap.specs.Words.{Text}
 use Rattle.program.specs.Asked.{AsmAsked, asm_asked}
 use Rattle.image_files.specs.Options.{fill_asked}
@@ -11,32 +11,20 @@ use Rattle.word_asm.specs.declared.format.SymbolsFormat.TheVariants.{Plain, Vice
 
 -- ---- whether more is asked for than a tape and a listing
 
--- An option by this name, with its value after `=` or in the next word.
-abbrev pub is_option : List ℕ → List ℕ → List ℕ → Bool
-is_option word name with_value = bytes_eq word name || starts_with (λ a b. a == b) word with_value
-
 -- `--symbols`, `--symbols-format` or `--map`.
-abbrev pub names_table : List ℕ → Bool
-names_table word = is_option word (codes "--symbols") (codes "--symbols=")
-    || is_option word (codes "--symbols-format") (codes "--symbols-format=")
-    || is_option word (codes "--map") (codes "--map=")
+abbrev pub asks_for_tables : List Text → Bool
+asks_for_tables words = has_option (codes "symbols") words
+    || has_option (codes "symbols-format") words || has_option (codes "map") words
 
 -- `--bin`, `--hex`, `--srec` or `--fill`.
-abbrev pub names_image : List ℕ → Bool
-names_image word = is_option word (codes "--bin") (codes "--bin=")
-    || is_option word (codes "--hex") (codes "--hex=")
-    || is_option word (codes "--srec") (codes "--srec=")
-    || is_option word (codes "--fill") (codes "--fill=")
+abbrev pub asks_for_images : List Text → Bool
+asks_for_images words = has_option (codes "bin") words || has_option (codes "hex") words
+    || has_option (codes "srec") words || has_option (codes "fill") words
 
 -- An option for a further file, or `--utf8`.
-abbrev pub is_further : List ℕ → Bool
-is_further word = names_table word || names_image word || bytes_eq word (codes "--utf8")
-
--- One of these words stands before `--`, after which no word is an option.
 abbrev pub asks_for_files : List Text → Bool
-asks_for_files [] = false
-asks_for_files (word ∷ words) = if bytes_eq word (codes "--") then false
-    else is_further word || asks_for_files words
+asks_for_files words = asks_for_tables words || asks_for_images words
+    || has_option (codes "utf8") words
 
 -- ---- what is asked for
 
