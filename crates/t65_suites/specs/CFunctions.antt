@@ -33,16 +33,20 @@ sized sizes offset count None = record { sizes = sizes; bound = None; last = cou
 sized sizes offset count (Some size)
     = record { sizes = sizes ++ size ∷ []; bound = Some offset; last = count }
 
+-- The parameter before one that follows a register variable is that, and has no offset.
+abbrev pub known_size : Bool → ℕ → Option Size
+known_size follows_register count = if follows_register then None else size_of count
+
 -- A parameter has an offset that is not below 0, and other locals have one that is.
-abbrev pub with_offset : Sizing → ℕ → Option ℕ → Sizing
-with_offset sizing offset None = sizing
-with_offset sizing offset (Some bound) = if nat_lt 32767 offset then sizing
-    else sized sizing.sizes offset (bound - offset) (size_of (bound - offset))
+abbrev pub with_offset : Sizing → ℕ → Bool → Option ℕ → Sizing
+with_offset sizing offset follows_register None = sizing
+with_offset sizing offset follows_register (Some bound) = if nat_lt 32767 offset then sizing
+    else sized sizing.sizes offset (bound - offset) (known_size follows_register (bound - offset))
 
 abbrev pub with_locals : Sizing → List LocalView → Sizing
 with_locals sizing [] = sizing
 with_locals sizing (local ∷ locals)
-    = with_locals (with_offset sizing local.offset sizing.bound) locals
+    = with_locals (with_offset sizing local.offset local.follows_register sizing.bound) locals
 
 abbrev pub no_size : ℕ → Sizing
 no_size count = record { sizes = []; bound = Some count; last = 0 }

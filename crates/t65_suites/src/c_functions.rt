@@ -5,7 +5,8 @@ ghost use Rattle.std.specs.Option.{option_map};
 ghost use Rattle.source_map.specs.Functions.{local_view};
 ghost use Rattle.source_map.specs.Functions.{function_view as view_in_map};
 ghost use Rattle.t65_reader.specs.CPrograms.{function_view, program_view};
-ghost use Rattle.t65_suites.specs.CFunctions.{IsCProgram, called_function, known_sizes};
+ghost use Rattle.t65_suites.specs.CFunctions.{IsCProgram, called_function, known_size};
+ghost use Rattle.t65_suites.specs.CFunctions.{known_sizes};
 ghost use Rattle.t65_suites.specs.CFunctions.{no_size, parameters_in, size_of, sized};
 ghost use Rattle.t65_suites.specs.CFunctions.{sizes_by, sizes_with, sizing_view, with_locals};
 ghost use Rattle.t65_suites.specs.CFunctions.{with_offset};
@@ -43,6 +44,18 @@ fn size_of(count: u32) -> Option<Size>
     }
 }
 
+/// Returns the size of a parameter that has so many bytes with those that the file does not have
+/// before it, if there are none such.
+fn known_size(follows_register: bool, count: u32) -> Option<Size>
+    ensures { result ≡ known_size follows_register count }
+{
+    if follows_register {
+        None
+    } else {
+        size_of(count)
+    }
+}
+
 /// Adds the parameter at an offset to those before it, if it has a size of C.
 fn add_size(
     sizing: &mut Sizing,
@@ -68,9 +81,9 @@ fn add_size(
 }
 
 /// Adds the local at an offset, if it is a parameter.
-fn add_offset(sizing: &mut Sizing, offset: u16) -> Result<(), AllocError>
+fn add_offset(sizing: &mut Sizing, offset: u16, follows_register: bool) -> Result<(), AllocError>
     ensures { OnOk result (sizing_view sizing.new
-        ≡ with_offset (sizing_view sizing.old) offset sizing.old.bound) }
+        ≡ with_offset (sizing_view sizing.old) offset follows_register sizing.old.bound) }
 {
     let Some(bound) = sizing.bound else {
         return Ok(());
@@ -79,7 +92,8 @@ fn add_offset(sizing: &mut Sizing, offset: u16) -> Result<(), AllocError>
         return Ok(());
     }
     let count = bound.saturating_sub(offset as u32);
-    add_size(sizing, offset as u32, count, size_of(count))
+    let size = known_size(follows_register, count);
+    add_size(sizing, offset as u32, count, size)
 }
 
 /// Adds the parameters among some locals.
@@ -88,7 +102,7 @@ fn add_locals(sizing: &mut Sizing, locals: &[CLocal]) -> Result<(), AllocError>
         ≡ with_locals (sizing_view sizing.old) (map local_view locals.now)) }
 {
     for local in locals {
-        add_offset(sizing, local.offset)?;
+        add_offset(sizing, local.offset, local.follows_register)?;
     }
     Ok(())
 }
