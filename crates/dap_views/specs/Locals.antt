@@ -85,8 +85,8 @@ local_named name locals = option_map (λ local. local.1) (find (has_name name) l
 -- ---- what is shown
 
 abbrev pub local_item : List ℕ → SeenLocal → SeenItem
-local_item memory local
-    = local_at (shown_bytes local.0) local.1.address (utf8_lossy (value_text memory local.1))
+local_item memory local = local_at (utf8_lossy (shown_bytes local.0)) local.1.address
+    (utf8_lossy (value_text memory local.1))
 
 -- Those that are asked for.
 abbrev pub ShowsLocals : State → PlacesView → ℕ → Page → SeenAnswer → Type 0

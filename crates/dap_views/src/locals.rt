@@ -3,6 +3,7 @@
 ghost use Rattle.std.specs.Prelude.{◌≡◌, ◌+◌, ◌==◌, ◌++◌, ◌∷◌, [], IfOk, None, OnOk, Some, find};
 ghost use Rattle.std.specs.Prelude.{get_or, length, map as each, option_map, slice_get, string_bytes};
 ghost use Rattle.std.specs.Str.Lossy.{utf8_lossy};
+ghost use Rattle.arguments.specs.Shown.{shown_bytes};
 ghost use Rattle.call_frames.specs.Found.{function_at};
 ghost use Rattle.call_frames.specs.Tables.{frames_at};
 ghost use Rattle.call_frames.specs.Values.{value_text};
@@ -20,7 +21,7 @@ ghost use Rattle.dap_views.specs.Pages.{page_of};
 use crate::paged::Paged;
 use crate::texts::as_text;
 use crate::watches::data_of;
-use arguments::shown_name;
+use arguments::push_shown;
 use call_frames::{Frame, Local, Tables, function_at, push_value, tables_at};
 use dap_messages::{
     Answer, ByteRange, Item, Page, Scope, local_at, look_body, range_of, variables_body,
@@ -239,14 +240,22 @@ fn value_of(alloc: Global, session: &Session, local: Local) -> Result<String, Al
     as_text(alloc, text, grown)
 }
 
+/// Returns the name of a local, as it is shown.
+fn name_of(alloc: Global, name: &[u8]) -> Result<String, AllocError>
+    ensures { IfOk result (λ text. string_bytes text ≡ utf8_lossy (shown_bytes name.now)) }
+{
+    let mut text = Vec::new(alloc);
+    let grown = push_shown(&mut text, name);
+    as_text(alloc, text, grown)
+}
+
 /// Returns a local as a variable.
 fn local_item(alloc: Global, session: &Session, local: FrameLocal<'_>) -> Result<Item, AllocError>
     ensures { IfOk result (λ v. item_view v
         ≡ local_item session.now.current.bus.memory (seen_local local.entry)) }
 {
-    let name = String::from_utf8_lossy(alloc, local.name)?;
     local_at(
-        shown_name(alloc, &name),
+        name_of(alloc, local.name),
         local.local.address,
         value_of(alloc, session, local.local),
     )
