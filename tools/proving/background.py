@@ -158,6 +158,10 @@ class Ended(Failure):
     """The proof may not go on, though nothing has failed."""
 
 
+class Waited(Exception):
+    """A call waits for the proof, so nothing is made before it."""
+
+
 class Watch:
     """Looks from time to time whether the proof may go on, and notes how far it is."""
 
@@ -185,9 +189,11 @@ class Watch:
         return True
 
     def pause(self, seconds):
-        """Waits before the proof, and raises Ended where that may not begin."""
+        """Waits before the proof. Raises Ended where that may not begin, and Waited where it may not
+        wait any more."""
         proving.Stop.pause(seconds)
-        self.is_time()
+        if self.is_time() and self.proof.is_waited_for():
+            raise Waited
 
     def look(self, build):
         """Raises Ended where the proof may not go on. `build` is what is at work."""
@@ -211,8 +217,8 @@ class Watch:
 
 
 def start(words, folder, log):
-    """Starts a command in a folder, in a session of its own without a terminal. What it says goes to
-    the folder's file `log`."""
+    """Starts a command in a folder, in a session of its own without a terminal. What it says goes
+    to the folder's file `log`."""
     if os.fork():
         os.wait()
         return

@@ -28,6 +28,11 @@ def installed():
     return os.path.dirname(os.path.dirname(os.path.realpath(shutil.which("rt") or "/")))
 
 
+def linker():
+    """The linker of the installed kit."""
+    return f"{installed()}/toolchain/bin/ld.lld"
+
+
 def is_known():
     """Whether the installed kit has the form that this needs."""
     return all(os.path.isfile(f"{installed()}/{it}") for it in NEEDED)
