@@ -4,8 +4,8 @@
 //!
 //! `symbols_text` and `map_text` make the two texts, `image_texts` the image, and `file_texts` all
 //! that the words ask for, each as the definitions in `specs/Texts.antt` and `specs/Images.antt`
-//! have it. `asm_files` serves the words; whether it
-//! has to is what `asks_for_files` says.
+//! have it. `asm_files` serves the words; whether it has to is what `asks_for_files` says.
+//! `asm_plainly` serves `asm` without further files.
 #![tactic(auto)]
 
 mod asked;
@@ -14,6 +14,7 @@ mod format;
 mod images;
 mod names;
 mod places;
+mod plain;
 mod run;
 mod texts;
 mod words;
@@ -23,6 +24,7 @@ pub use format::SymbolsFormat;
 pub use images::{ImageTexts, ImagesAsked, image_texts};
 pub use names::symbols_text;
 pub use places::map_text;
+pub use plain::asm_plainly;
 pub use run::asm_files;
 pub use texts::{FileTexts, TextsAsked, file_texts};
 pub use words::asks_for_files;

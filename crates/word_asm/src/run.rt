@@ -26,7 +26,9 @@ use std::io::Write;
 use std::rt::Files;
 
 /// Writes a text to a file of that name. A file that is there is replaced.
-fn write_named<'a, H: Files + AllocGlobal>(
+///
+/// Errors, with its name: as those of `write_file`.
+pub fn write_named<'a, H: Files + AllocGlobal>(
     rt: &H,
     file: &'a str,
     text: &[u8],
@@ -37,7 +39,9 @@ fn write_named<'a, H: Files + AllocGlobal>(
 }
 
 /// Writes a text to a file of that name, if both are there. A file that is there is replaced.
-fn write_asked<'a, H: Files + AllocGlobal>(
+///
+/// Errors, with its name: as those of `write_file`.
+pub fn write_asked<'a, H: Files + AllocGlobal>(
     rt: &H,
     file: Option<&'a str>,
     text: &Option<Vec<u8>>,
