@@ -40,7 +40,7 @@ pub enum SourceState {
 }
 
 /// Returns whether so many bytes are as many as are told, if that is told.
-fn has_size(count: usize, size: Option<u32>) -> bool
+pub fn has_size(count: usize, size: Option<u32>) -> bool
     ensures { result ≡ has_size count size }
 {
     match size {

@@ -2,17 +2,17 @@
 
 ghost use Rattle.std.specs.Prelude.{◌≡◌, ◌∷◌, ◌++◌, [], IfErr, IfOk, Ok, OnOk, length, map};
 ghost use Rattle.std.specs.Prelude.{option_map};
-ghost use Rattle.debug_files.specs.Changed.{IsFound, sought_view};
+ghost use Rattle.debug_files.specs.Changed.{IsFound, sought_view, text_by};
 ghost use Rattle.debug_files.specs.Loads.{named, names_in};
 ghost use Rattle.debug_records.specs.Views.{file_view};
 ghost use Rattle.source_map.specs.Lines.{source_view};
 
-use crate::changed::{Sought, SourceState, state_of};
+use crate::changed::{Sought, SourceState, has_size, state_of};
 use crate::paths::{slashed, source_path};
 use arguments::{Refusal, read_most};
 use debug_records::File;
 use source_map::SourceFile;
-use std::alloc::AllocError;
+use std::alloc::{AllocError, Global};
 use std::rt::Files;
 
 /// The most bytes of a source that is shown.
@@ -67,7 +67,7 @@ fn bytes_of<H: Files + AllocGlobal>(
 
 /// Returns how many bytes there are, if there are some at all.
 fn count_of(text: &Option<Vec<u8>>) -> Option<usize>
-    ensures { result ≡ option_map (λ t. length t.items) text.now }
+    ensures { result ≡ option_map length (option_map (λ t. t.items) text.now) }
 {
     match text {
         Some(text) => Some(text.len()),
@@ -93,6 +93,22 @@ pub fn source_state<H: Files + AllocGlobal>(
     Ok(state_of(count_of(&text), size))
 }
 
+/// Returns the text that is shown of a source, by what was read of it: none if it has changed.
+fn shown_text(alloc: Global, read: Option<Vec<u8>>, size: Option<u32>) -> Vec<u8>
+    ensures { result.items ≡ text_by (option_map (λ t. t.items) read) size }
+{
+    match read {
+        Some(text) => {
+            if has_size(text.len(), size) {
+                text
+            } else {
+                Vec::new(alloc)
+            }
+        }
+        None => Vec::new(alloc),
+    }
+}
+
 /// Returns the text of a source, and notes how it was found: none if it cannot be read, or has
 /// changed.
 ///
@@ -109,13 +125,10 @@ fn text_of<H: Files + AllocGlobal>(
         (sought_view sought.old) (sought_view sought.new) text.items) }
     ensures refused { IfErr result (λ fault. fault ≡ Refusal.OutOfMemory) }
 {
-    let text = bytes_of(rt, file, root, source.name)?;
-    let state = state_of(count_of(&text), source.size);
+    let read = bytes_of(rt, file, root, source.name)?;
+    let state = state_of(count_of(&read), source.size);
     of_memory(sought.note(source.name, state))?;
-    match (state, text) {
-        (SourceState::Same, Some(text)) => Ok(text),
-        _ => Ok(Vec::new(rt.alloc())),
-    }
+    Ok(shown_text(rt.alloc(), read, source.size))
 }
 
 /// Returns a source with its text, by its name with `/` for `\`: no name and no text if there is no
