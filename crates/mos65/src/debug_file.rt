@@ -27,7 +27,7 @@ pub fn has_file<'a>(command: Result<Command<'a>, Error>, words: &'a [&'a str], f
 
 /// Returns words with another word at a place.
 fn marked<'a>(alloc: Global, words: &[&'a str], place: usize) -> Result<Vec<&'a str>, AllocError>
-    requires { place < length words.entry.now }
+    requires { place < length words.now }
 {
     let mut all = Vec::from_slice(alloc, words)?;
     all[place] = MARK;
@@ -36,7 +36,7 @@ fn marked<'a>(alloc: Global, words: &[&'a str], place: usize) -> Result<Vec<&'a 
 
 /// Returns words without the one at a place.
 fn without<'a>(alloc: Global, words: &[&'a str], place: usize) -> Result<Vec<&'a str>, AllocError>
-    requires { place < length words.entry.now }
+    requires { place < length words.now }
 {
     let mut rest = Vec::from_slice(alloc, words)?;
     rest.remove(place);
@@ -97,7 +97,7 @@ fn with_debug_file<F: FnOnce(&[&str]) -> u8>(
     serve: F,
 ) -> u8
     requires called { F.IsAlwaysCallable serve }
-    requires within { place < length words.entry.now }
+    requires within { place < length words.now }
 {
     match without(rt.alloc(), words, place) {
         Ok(rest) => with_files(rt, words[place], &rest, unread, serve),
