@@ -259,8 +259,8 @@ pub fn all_faults_text(
 }
 
 /// Returns the text of the faults that are told of a source which is refused with a fault, as
-/// `faults_text` writes it under the name of the source's file. Returns nothing if memory ran out, or if that is the
-/// fault. Source: mos65.
+/// `faults_text` writes it under the name of the source's file. Returns nothing if memory ran out,
+/// or if that is the fault. Source: mos65.
 pub fn told_faults(
     alloc: Global,
     file: &[u8],

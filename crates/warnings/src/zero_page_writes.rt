@@ -94,7 +94,7 @@ fn is_load(operation: Operation) -> bool
     )
 }
 
-/// Whether an operand is a number alone that nothing writes, nor a screen if the operation loads it.
+/// Whether an operand is a number alone that nothing writes, nor a screen, if it is loaded.
 fn is_plain_for(operation: Operation, operand: &Operand<'_>, reaches: &[Reach]) -> bool
     ensures { result ≡ is_plain_for operation (operand_view operand.now) reaches.now }
 {
