@@ -137,8 +137,8 @@ fn finish<'a>(reading: Reading<'a>) -> Result<DebugInfo<'a>, DebugError>
 /// # Errors
 ///
 /// `Fault` is the first fault of a line; if there is none, the first reference to a record that is
-/// not there; if there is none, spans of lines with more than 16,777,216 bytes together. A file of
-/// more than 16 MiB, 4,096 files, or 262,144 records of another word, or spans of lines, is refused.
+/// not there; if there is none, spans of lines with more than 16,777,216 bytes together. Refused is
+/// a file of more than 16 MiB, 4,096 files, or 262,144 records of another word, or spans of lines.
 /// `OutOfMemory` comes where an allocation failed.
 #[tactic(auto, unfolding(crate::specs::Reading::debug_info))]
 pub fn read_debug_info<'a>(alloc: Global, text: &'a [u8]) -> Result<DebugInfo<'a>, DebugError>

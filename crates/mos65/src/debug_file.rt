@@ -13,8 +13,8 @@ use std::cell::Cell;
 /// What stands in the place of a word to see whether it is FILE.
 const MARK: &str = "FILE";
 
-/// Returns whether FILE is this text among the words, as they are matched with a command line. Words
-/// that do not fit have no FILE.
+/// Returns whether FILE is this text among the words, as they are matched with a command line.
+/// Words that do not fit have no FILE.
 pub fn has_file<'a>(command: Result<Command<'a>, Error>, words: &'a [&'a str], file: &str) -> bool {
     let Ok(command) = command else {
         return false;
@@ -45,8 +45,8 @@ fn without<'a>(alloc: Global, words: &[&'a str], place: usize) -> Result<Vec<&'a
 
 /// Returns the place of FILE among words, if it is a debug file.
 ///
-/// `has_file` says whether FILE is a text among words. A word that is equal to FILE may be the value
-/// of an option, so each such word is changed in turn: FILE changes with the one that it is.
+/// `has_file` says whether FILE is a text among words. A word that is equal to FILE may be the
+/// value of an option, so each such word is changed in turn: FILE changes with the one that it is.
 fn place_of<F: Fn(&[&str], &str) -> bool>(
     alloc: Global,
     words: &[&str],
@@ -105,8 +105,8 @@ fn with_debug_file<F: FnOnce(&[&str]) -> u8>(
     }
 }
 
-/// Serves words that run a program, or the program of a debug file, by the call `serve`, and returns
-/// the exit status. `has_file` says whether FILE is a text among words.
+/// Serves words that run a program, or the program of a debug file, by the call `serve`, and
+/// returns the exit status. `has_file` says whether FILE is a text among words.
 pub fn with_program<H: Fn(&[&str], &str) -> bool, F: FnOnce(&[&str]) -> u8>(
     rt: &HostRuntime,
     words: &[&str],
