@@ -57,9 +57,7 @@ pub one_function : functions_of bank ≡ record {
   name = codes "open_account";
   start = 0x80E6;
   size = 117;
-  locals = record { name = codes "name"; offset = 2; follows_register = false } ∷
-      record { name = codes "balance"; offset = 0; follows_register = false } ∷
-      record { name = codes "a"; offset = 0xFFFE; follows_register = false } ∷ [];
+  locals = record { name = codes "name"; offset = 2; follows_register = false } ∷ record { name = codes "balance"; offset = 0; follows_register = false } ∷ record { name = codes "a"; offset = 0xFFFE; follows_register = false } ∷ [];
 } ∷ []
 unfolding functions_from function_at head_of
 one_function = refl
