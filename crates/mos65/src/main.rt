@@ -25,6 +25,7 @@ mod routes;
 mod run;
 mod test;
 mod trace;
+mod unreadable;
 
 use crate::process::serve_process;
 use crate::routes::{Route, route_of};

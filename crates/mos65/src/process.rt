@@ -3,6 +3,8 @@
 ghost use Rattle.std.specs.Prelude.{◌≡◌};
 
 use crate::pipe::UNREAD;
+use crate::unreadable::unreadable_line;
+use arguments::put;
 use program::{process_words, unreadable_words, words_of};
 use standard_streams::take_closed;
 use std::cell::Cell;
@@ -31,6 +33,18 @@ fn serve_own<F: FnOnce(&[&str], &Cell<bool>) -> u8>(rt: &HostRuntime, serve: F) 
     Ok(serve_words(&words, serve))
 }
 
+/// Writes why the process's words cannot be read, and returns the exit status. Behind the fault
+/// line stands which word is not UTF-8.
+fn refuse_process(rt: &HostRuntime, error: &io::Error) -> u8 {
+    let status = unreadable_words(error, &mut rt.stderr());
+    if status == 2 {
+        if let Ok(Some(line)) = unreadable_line(rt) {
+            let _ = put(&mut rt.stderr(), line.as_slice());
+        }
+    }
+    status
+}
+
 /// Does what the process's words ask for by the call `serve`, and returns the exit code.
 ///
 /// `serve` is given the words, and a cell in which its outputs note that nobody reads them. Without
@@ -41,7 +55,7 @@ pub fn serve_process<F: FnOnce(&[&str], &Cell<bool>) -> u8>(rt: &HostRuntime, se
     let _closed = take_closed(rt);
     let status = match serve_own(rt, serve) {
         Ok(status) => status,
-        Err(error) => unreadable_words(&error, &mut rt.stderr()),
+        Err(error) => refuse_process(rt, &error),
     };
     ExitCode::from(status)
 }

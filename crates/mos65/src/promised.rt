@@ -2,11 +2,11 @@
 
 use crate::pipe::{Piped, Quiet, after_name};
 use crate::routes::{Route, route_of};
-use program::program;
+use program::{Words, program, read_words};
 use standard_streams::Retrying;
 use std::cell::Cell;
 use std::io;
-use word_asm::asm_files;
+use word_asm::{asm_files, asm_plainly};
 use word_convert::{debug_image, dis_image};
 use word_debug::{strict_debug, strict_debug_image};
 use word_dis::dis_source;
@@ -46,15 +46,19 @@ fn debug_on_image(rt: &HostRuntime, words: &[&str]) -> u8 {
     )
 }
 
-/// Serves `asm`, `dis` and `debug` as promised, and returns the exit status.
+/// Serves `asm`, `dis` and `debug` as promised, and returns the exit status. Behind the line of a
+/// file that `asm` does not write stands which it is, and why.
 fn serve_program(rt: &HostRuntime, words: &[&str]) -> u8 {
-    program(
-        rt,
-        words,
-        &mut Retrying::new(rt.reader()),
-        &mut io::writer(rt),
-        &mut rt.stderr(),
-    )
+    match read_words(rt.alloc(), words) {
+        Ok(Words::Asm(words)) => asm_plainly(rt, &words, &mut rt.stderr()),
+        _ => program(
+            rt,
+            words,
+            &mut Retrying::new(rt.reader()),
+            &mut io::writer(rt),
+            &mut rt.stderr(),
+        ),
+    }
 }
 
 /// Serves `asm`, `dis` and `debug`, and returns the exit status. `words` begin with the command's

@@ -1,6 +1,8 @@
 """The program's words `asm`, `dis` and `debug`: options, files, exit statuses and fault lines."""
 
+import errno
 import os
+import unicodedata
 
 import asm
 import disasm
@@ -29,11 +31,11 @@ USAGE = """usage: mos65 asm SOURCE TAPE [--listing FILE] [--port HHHH] [--profil
 
 
 class End(Exception):
-    """The program ends with a status and a fault line."""
+    """The program ends with a status and a fault line, behind which more may stand."""
 
-    def __init__(self, status, line):
+    def __init__(self, status, line, more=()):
         Exception.__init__(self, status, line)
-        self.status, self.line = status, line
+        self.status, self.line, self.more = status, line, more
 
 
 class Help(Exception):
@@ -172,20 +174,35 @@ def read_file(files, name):
         raise End(INOUT, "READ")
 
 
+REASONS = {
+    errno.EISDIR: "is a folder", errno.ENOENT: "no such folder", errno.ENOTDIR: "no such folder",
+    errno.ENOSPC: "no room", errno.EFBIG: "no room", errno.EDQUOT: "no room",
+    errno.EACCES: "permission denied", errno.EPERM: "permission denied",
+    errno.EROFS: "permission denied",
+}
+
+
+def unwritten(name, reason):
+    """A file of `asm` is not written: which, and why, where that is known."""
+    shown = "".join("?" if unicodedata.category(it) == "Cc" else it for it in name)
+    return End(INOUT, "WRITE", [("%s: WRITE %s" % (shown, reason)).rstrip()])
+
+
 def write_file(files, name, content):
     try:
         files.write(name, content)
-    except OSError:
-        raise End(INOUT, "WRITE")
+    except OSError as error:
+        raise unwritten(name, REASONS.get(error.errno, ""))
 
 
 def check_files(files, names, source):
     """No file to write is the source or another one; a source that looks like a tape replaces none."""
     for at, name in enumerate(names):
         if any(files.is_one(name, other) for other in names[:at]):
-            raise End(INOUT, "WRITE")
-    if any(files.is_there(name) for name in names[1:]) and tape.looks_like_tape(source):
-        raise End(INOUT, "WRITE")
+            raise unwritten(name, "same file as another")
+    there = [it for it in names[1:] if files.is_there(it)]
+    if there and tape.looks_like_tape(source):
+        raise unwritten(there[0], "the source looks like a tape")
 
 
 def read_source(content, spec):
@@ -276,5 +293,6 @@ def program(words, stdin, stdout, stderr, files=Disk):
         stderr.write(("error: %s\n" % fault.args[0]).encode())
         return WORDS
     except End as end:
-        stderr.write(("mos65: %s\n" % end.line).encode())
+        for line in (end.line, *end.more):
+            stderr.write(("mos65: %s\n" % line).encode())
         return end.status
