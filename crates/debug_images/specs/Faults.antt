@@ -12,12 +12,16 @@ use Rattle.debug_images.specs.declared.fault.TheConstants.{NO_FILE, NO_PLACE, NO
 abbrev pub of_file : Text → List ℕ → List ℕ → List ℕ
 of_file file name what = line_of file (codes ": " ++ (name ++ (what ++ codes "\n")))
 
+-- A line that names the debug file alone.
+abbrev pub alone : Text → List ℕ → List ℕ
+alone file what = line_of file (what ++ codes "\n")
+
 abbrev pub told_text : Text → ImageFault → List ℕ
 told_text file (Unread fault) = load_text fault file
 told_text file (NoPlace name) = of_file file name.items NO_PLACE.now
 told_text file (Short name) = of_file file name.items SHORT.now
 told_text file (NoText name) = of_file file name.items NO_TEXT.now
-told_text file NoFile = line_of file (NO_FILE.now ++ codes "\n")
+told_text file NoFile = alone file NO_FILE.now
 told_text file OutOfMemory = file_line file refusal.OutOfMemory
 
 abbrev pub status_of_image : ImageFault → ℕ

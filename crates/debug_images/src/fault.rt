@@ -1,7 +1,7 @@
 //! Why a program is not found by its debug file.
 
 ghost use Rattle.std.specs.Prelude.{◌≡◌};
-ghost use Rattle.debug_images.specs.Faults.{of_file, status_of_image, told_text};
+ghost use Rattle.debug_images.specs.Faults.{alone, of_file, status_of_image, told_text};
 ghost use Rattle.model.specs.Writers.{AppendsFront};
 
 use arguments::{LoadFault, Refusal, put_named, refuse_file};
@@ -68,23 +68,30 @@ fn tell_of<E: Write>(file: &str, name: &[u8], what: &str, errors: &mut E) -> u8
     1
 }
 
+/// Writes what is said of a debug file alone, and returns the exit status 1.
+fn tell_alone<E: Write>(file: &str, what: &str, errors: &mut E) -> u8
+    ensures status { result ≡ 1 }
+    ensures told { AppendsFront (E.contents errors.old) (E.contents errors.new)
+        (alone file.now what.now) }
+{
+    put_named(file, &[what.as_bytes(), b"\n"], errors);
+    1
+}
+
 impl ImageFault {
     /// Writes why the program of a debug file is not found, or a beginning of that line if a write
     /// fails, and returns the exit status.
     pub fn tell<E: Write>(self, file: &str, errors: &mut E) -> u8
-        ensures status { result ≡ status_of_image self.entry }
+        ensures status { result ≡ status_of_image self }
         ensures told { AppendsFront (E.contents errors.old) (E.contents errors.new)
-            (told_text file.now self.entry) }
+            (told_text file.now self) }
     {
         match self {
             ImageFault::Unread(fault) => fault.tell(file, errors),
             ImageFault::NoPlace(name) => tell_of(file, name.as_slice(), NO_PLACE, errors),
             ImageFault::Short(name) => tell_of(file, name.as_slice(), SHORT, errors),
             ImageFault::NoText(name) => tell_of(file, name.as_slice(), NO_TEXT, errors),
-            ImageFault::NoFile => {
-                put_named(file, &[NO_FILE.as_bytes(), b"\n"], errors);
-                1
-            }
+            ImageFault::NoFile => tell_alone(file, NO_FILE, errors),
             ImageFault::OutOfMemory => refuse_file(Refusal::OutOfMemory, file, errors),
         }
     }
