@@ -204,7 +204,6 @@ fn begin_reports(alloc: Global, words: &TestWords<'_>) -> Result<Reports, AllocE
 }
 
 /// Runs the suites of the words, writes their reports, and returns the exit status.
-#[tactic(auto, using(crate::proofs::Facts::begun_if_tested))]
 fn run_reported<H: Files + AllocGlobal, O: Write, E: Write>(
     rt: &H,
     words: &TestWords<'_>,
