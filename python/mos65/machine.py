@@ -86,9 +86,7 @@ def _in_its_thread(call: _Call) -> _Call:
 
     @functools.wraps(call)
     def checked(self: "Machine", *given: Any, **options: Any) -> Any:
-        if get_ident() != self._thread:
-            text = "a machine is used by the thread that opened it, and this is another one"
-            raise Refused("Thread", text=text)
+        self._needs_thread()
         return call(self, *given, **options)
 
     return cast(_Call, checked)
@@ -192,6 +190,13 @@ class Machine:
         self._watches: List[int] = []
         self._request = RequestLine()
         Machine.open_machines.add(self)
+
+    def _needs_thread(self) -> None:
+        """Raises Refused in a thread that did not open the machine. Calls that a rig makes most begin
+        with it, which takes less than `_in_its_thread`."""
+        if get_ident() != self._thread:
+            text = "a machine is used by the thread that opened it, and this is another one"
+            raise Refused("Thread", text=text)
 
     def _mos65(self) -> str:
         return words.find_program(self._program)
@@ -357,15 +362,15 @@ class Machine:
     # ---- memory and registers
 
     @property
-    @_in_its_thread
     def registers(self) -> Registers:
         """The registers, and the cycles since the start."""
+        self._needs_thread()
         return self._way.registers()
 
     @property
-    @_in_its_thread
     def cycles(self) -> int:
         """The cycles since the start, whose reset took 7."""
+        self._needs_thread()
         return self._way.registers().cycles
 
     @_in_its_thread
@@ -402,17 +407,16 @@ class Machine:
             raise Refused("Value", text=f"{register}={value}")
         return 1
 
-    @_in_its_thread
     def read(self, place: Place, count: int = 1) -> bytes:
         """Bytes of memory, 0 at the port. Nothing is changed.
 
         Raises EventFault, PastEnd, where they go past 0xFFFF; Refused for a count below 0.
         """
+        self._needs_thread()
         if count < 0:
             raise Refused("Count", text=str(count))
         return self._way.read(self._range(place, count), count)
 
-    @_in_its_thread
     def write(self, place: Place, data: Bytes) -> int:
         """Puts bytes into memory, or one byte that is given as a number; into ROM too. Returns how
         many events that were: one for each three bytes.
@@ -420,6 +424,7 @@ class Machine:
         Raises EventFault, PastEnd where they go past 0xFFFF and PortAddress where one stands at
         the port; Refused for a number that is no byte. Nothing is changed then.
         """
+        self._needs_thread()
         data = _bytes_of(data)
         address = self._range(place, len(data))
         port = self.port
@@ -632,13 +637,13 @@ class Machine:
 
     # ---- running
 
-    @_in_its_thread
     def step(self) -> Registers:
         """Makes one step, and returns the registers after it.
 
         Raises EventFault where it is refused: Undocumented, ConsoleFull, CyclesFull. As all that
         moves the machine, it raises Refused, Busy, where a device calls it.
         """
+        self._needs_thread()
         self._needs_rest()
         if not self._devices.is_used or self._devices.step().why is Why.REFUSED:
             self._make("step", None, 1)
@@ -706,7 +711,6 @@ class Machine:
             if not is_set:
                 self._way.clear_break(address)
 
-    @_in_its_thread
     def call(
         self,
         place: Place,
@@ -728,6 +732,7 @@ class Machine:
         stands where it stopped. Raises SessionFault, TableFull, where 256 breakpoints are set, and
         Refused for a value that is no byte or a limit as `run` does; nothing is changed then.
         """
+        self._needs_thread()
         address = self.address(place)
         given = 0
         if a is not None:
@@ -784,12 +789,12 @@ class Machine:
             raise Refused("Limit", text=str(limit))
         return limit
 
-    @_in_its_thread
     def back(self, count: int = 1) -> None:
         """Goes back over the last `count` events; over none, where it is 0.
 
         Raises SessionFault, NoHistory, where fewer are held; Refused outside 0..0xFFFFFFFF.
         """
+        self._needs_thread()
         if not 0 <= count <= _MOST:
             raise Refused("Count", text=str(count))
         self._needs_rest()
