@@ -2,6 +2,7 @@
 
 use crate::pipe::{Piped, Quiet, after_name};
 use crate::routes::{Route, route_of};
+use arguments::refused_words;
 use program::{Words, program, read_words};
 use standard_streams::Retrying;
 use std::cell::Cell;
@@ -46,18 +47,25 @@ fn debug_on_image(rt: &HostRuntime, words: &[&str]) -> u8 {
     )
 }
 
+/// Serves words as `program` does, and returns the exit status.
+fn serve_program(rt: &HostRuntime, words: &[&str]) -> u8 {
+    program(
+        rt,
+        words,
+        &mut Retrying::new(rt.reader()),
+        &mut io::writer(rt),
+        &mut rt.stderr(),
+    )
+}
+
 /// Serves `asm`, `dis` and `debug` as promised, and returns the exit status. Behind the line of a
 /// file that `asm` does not write stands which it is, and why.
-fn serve_program(rt: &HostRuntime, words: &[&str]) -> u8 {
+fn serve_promised<'a>(rt: &HostRuntime, words: &'a [&'a str]) -> u8 {
     match read_words(rt.alloc(), words) {
         Ok(Words::Asm(words)) => asm_plainly(rt, &words, &mut rt.stderr()),
-        _ => program(
-            rt,
-            words,
-            &mut Retrying::new(rt.reader()),
-            &mut io::writer(rt),
-            &mut rt.stderr(),
-        ),
+        Ok(Words::Dis(_)) => serve_program(rt, words),
+        Ok(Words::Debug(_)) => serve_program(rt, words),
+        Err(fault) => refused_words(fault, &mut io::writer(rt), &mut rt.stderr()),
     }
 }
 
@@ -74,6 +82,6 @@ pub fn serve(rt: &HostRuntime, words: &[&str], unread: &Cell<bool>) -> u8 {
         Route::StrictDebug => debug_strictly(rt, rest),
         Route::StrictImage => debug_strictly_on_image(rt, rest),
         Route::DebugImage => debug_on_image(rt, rest),
-        _ => serve_program(rt, words),
+        _ => serve_promised(rt, words),
     }
 }
