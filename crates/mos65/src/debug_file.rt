@@ -4,6 +4,7 @@ ghost use Rattle.std.specs.Prelude.{◌≡◌, ◌<◌, IfOk, IfSome, length};
 
 use crate::pipe::Quiet;
 use arguments::{Refusal, refuse};
+use clap::error::ErrorKind;
 use clap::{Command, Error};
 use debug_images::{image_words, names_program};
 use program::words_of;
@@ -13,15 +14,31 @@ use std::cell::Cell;
 /// What stands in the place of a word to see whether it is FILE.
 const MARK: &str = "FILE";
 
+/// Returns that words which do not fit have no FILE.
+///
+/// Errors: `AllocError` if they were not matched since an allocation failed.
+fn no_file(error: Error) -> Result<bool, AllocError> {
+    match error.kind() {
+        ErrorKind::OutOfMemory => Err(AllocError),
+        _ => Ok(false),
+    }
+}
+
 /// Returns whether FILE is this text among the words, as they are matched with a command line.
 /// Words that do not fit have no FILE.
-pub fn has_file<'a>(command: Result<Command<'a>, Error>, words: &'a [&'a str], file: &str) -> bool {
-    let Ok(command) = command else {
-        return false;
-    };
-    match command.try_get_matches_from(words) {
-        Ok(matches) => matches.get_str("FILE") == Some(file),
-        Err(_) => false,
+///
+/// Errors: `AllocError` if an allocation fails.
+pub fn has_file<'a>(
+    command: Result<Command<'a>, Error>,
+    words: &'a [&'a str],
+    file: &str,
+) -> Result<bool, AllocError> {
+    match command {
+        Ok(command) => match command.try_get_matches_from(words) {
+            Ok(matches) => Ok(matches.get_str("FILE") == Some(file)),
+            Err(error) => no_file(error),
+        },
+        Err(error) => no_file(error),
     }
 }
 
@@ -47,7 +64,7 @@ fn without<'a>(alloc: Global, words: &[&'a str], place: usize) -> Result<Vec<&'a
 ///
 /// `has_file` says whether FILE is a text among words. A word that is equal to FILE may be the
 /// value of an option, so each such word is changed in turn: FILE changes with the one that it is.
-fn place_of<F: Fn(&[&str], &str) -> bool>(
+fn place_of<F: Fn(&[&str], &str) -> Result<bool, AllocError>>(
     alloc: Global,
     words: &[&str],
     has_file: F,
@@ -57,10 +74,12 @@ fn place_of<F: Fn(&[&str], &str) -> bool>(
 {
     for place in 0..words.len() {
         let word = words[place];
-        if names_program(word) && has_file(words, word) {
-            let other = marked(alloc, words, place)?;
-            if has_file(&other, MARK) {
-                return Ok(Some(place));
+        if names_program(word) {
+            if has_file(words, word)? {
+                let other = marked(alloc, words, place)?;
+                if has_file(&other, MARK)? {
+                    return Ok(Some(place));
+                }
             }
         }
     }
@@ -107,7 +126,7 @@ fn with_debug_file<F: FnOnce(&[&str]) -> u8>(
 
 /// Serves words that run a program, or the program of a debug file, by the call `serve`, and
 /// returns the exit status. `has_file` says whether FILE is a text among words.
-pub fn with_program<H: Fn(&[&str], &str) -> bool, F: FnOnce(&[&str]) -> u8>(
+pub fn with_program<H: Fn(&[&str], &str) -> Result<bool, AllocError>, F: FnOnce(&[&str]) -> u8>(
     rt: &HostRuntime,
     words: &[&str],
     unread: &Cell<bool>,
